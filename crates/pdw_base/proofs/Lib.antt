@@ -1,0 +1,5 @@
+pub mod TextLemmas
+pub mod ComparisonLemmas
+pub mod SameBagLaws
+pub mod Steps
+pub mod SchemaLemmas

@@ -1,0 +1,5 @@
+pub mod Text
+pub mod Value
+pub mod Hash
+pub mod Comparison
+pub mod Schema

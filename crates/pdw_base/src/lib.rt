@@ -1,0 +1,22 @@
+//! Values, rows and bags, and the small types that every other crate speaks of.
+#![tactic(auto)]
+
+mod bag;
+mod memory;
+mod node;
+mod comparison;
+mod row;
+mod schema;
+mod text;
+mod truth;
+mod value;
+
+pub use bag::Bag;
+pub use memory::NoMemory;
+pub use node::{Node, NodeCount, node_of};
+pub use comparison::{compare, order, order_is_total};
+pub use row::Row;
+pub use schema::{ColId, Schema};
+pub use text::Str;
+pub use truth::Truth;
+pub use value::{Kind, Value, ValueRef};
