@@ -19,10 +19,12 @@ RisesBelow-more {X} number xs n one below greater i j d less within =
   where
     at_last : number (get_or xs i d) < number (get_or xs n d) → number (get_or xs i d) < number (get_or xs n d)
     at_last h = h
+
     through : i < n - 1 → number (get_or xs i d) < number (get_or xs n d)
     through before =
         let first = below i (n - 1) d before (omega arith) in
         let second = greater d in
         omega arith
+
     next : ¬ (i < n - 1) → number (get_or xs i d) < number (get_or xs n d)
     next after = let same : n - 1 ≡ i = omega arith in subst (λ k. number (get_or xs k d) < number (get_or xs n d)) same (greater d)

@@ -3,3 +3,4 @@ pub mod Value
 pub mod Hash
 pub mod Comparison
 pub mod Schema
+pub mod SameBag

@@ -47,5 +47,4 @@ pub fn order(a: ValueRef<'_>, b: ValueRef<'_>) -> Ordering
 pub fn order_is_total()
     ensures total { IsTotalOrder value_cmp }
     ensures equal_only { (a b : SqlValue) → value_cmp a b ≡ ord.Equal → a ≡ b }
-{
-}
+{}

@@ -2,9 +2,9 @@
 #![tactic(auto)]
 
 mod bag;
+mod comparison;
 mod memory;
 mod node;
-mod comparison;
 mod row;
 mod schema;
 mod text;
@@ -12,9 +12,9 @@ mod truth;
 mod value;
 
 pub use bag::Bag;
+pub use comparison::{compare, order, order_is_total};
 pub use memory::NoMemory;
 pub use node::{Node, NodeCount, node_of};
-pub use comparison::{compare, order, order_is_total};
 pub use row::Row;
 pub use schema::{ColId, Schema};
 pub use text::Str;

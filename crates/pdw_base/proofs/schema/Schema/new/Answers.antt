@@ -11,7 +11,7 @@ loop-at-preserved c =
     let within : c.loop-at.at < length columns = omega arith in
     let before : c.loop-at.at - 1 < length columns = omega arith in
     RisesBelow-more (λ column. column.0.0) columns c.loop-at.at c.loop-at.auto.at c.loop-at.invariant
-        (λ d.
-            let low = ap (λ (column : ColId × Kind). column.0.0) (get_or_read columns (c.loop-at.at - 1) c.index.result.now before c.index.ensures d) in
-            let high = ap (λ (column : ColId × Kind). column.0.0) (get_or_read columns c.loop-at.at c.index-in-loop-at.result.now within c.index-in-loop-at.ensures d) in
-            omega arith)
+    (λ d.
+    let low = ap (λ (column : ColId × Kind). column.0.0) (get_or_read columns (c.loop-at.at - 1) c.index.result.now before c.index.ensures d) in
+    let high = ap (λ (column : ColId × Kind). column.0.0) (get_or_read columns c.loop-at.at c.index-in-loop-at.result.now within c.index-in-loop-at.ensures d) in
+    omega arith)
