@@ -1,0 +1,6 @@
+//! The appliance as a program: a script of statements in, rows out.
+#![tactic(auto)]
+
+mod statement;
+
+fn main() {}
