@@ -2,5 +2,7 @@
 #![tactic(auto)]
 
 mod statement;
+mod text;
+mod words;
 
 fn main() {}
