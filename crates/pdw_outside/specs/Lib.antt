@@ -4,3 +4,6 @@ pub mod Sink
 pub mod Whole
 pub mod Entries
 pub mod Page
+pub mod Calls
+pub mod MemFiles
+pub mod MemSink
