@@ -7,4 +7,4 @@ mod table;
 
 
 pub use catalog::Catalog;
-pub use table::{Column, Placing, Table};
+pub use table::{Column, MOST_COLUMNS, MOST_TEXT_BYTES, Placing, Table};
