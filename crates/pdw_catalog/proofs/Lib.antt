@@ -1,0 +1,3 @@
+pub mod NodeBagsLemmas
+pub mod StoresLemmas
+pub mod TablesLemmas
