@@ -197,12 +197,7 @@ impl NodeBags {
     }
 
     // The first `count` nodes gain all of the rows.
-    fn copy_to_first(
-        &mut self,
-        alloc: Global,
-        count: usize,
-        rows: &[Row],
-    ) -> Result<(), NoMemory>
+    fn copy_to_first(&mut self, alloc: Global, count: usize, rows: &[Row]) -> Result<(), NoMemory>
         requires { count ≤ length self.old }
         ensures ok { OnOk result (CopiedToFirst count self.old self.new rows.now) }
         ensures err { OnErr result (Extends self.old self.new) }
