@@ -1,0 +1,4 @@
+pub mod NodeBagsLemmas
+pub mod StoresLemmas
+pub mod TablesLemmas
+pub mod ApplianceLemmas
