@@ -1,5 +1,5 @@
 ghost use Rattle.std.specs.Prelude.{◌≡◌, ◌+◌, ◌≤◌, ◌<◌, ◌++◌, length, vec_len, IfOk, OnOk, OnErr, IsSome, true};
-ghost use Rattle.std.specs.List.{AllByRecursion};
+ghost use Rattle.std.specs.List.{flat_map};
 ghost use Rattle.pdw_catalog.specs.Table.{FitsTable, most_rows};
 ghost use Rattle.pdw_catalog.specs.Catalog.{table_named};
 ghost use Rattle.pdw_catalog.specs.Appliance.{CanCreate, CanAppend, HasTable, IsSound, Stores, bag_at, bags_of, creating, dropping, empty_of, GainsRows, whole_of};
@@ -111,6 +111,15 @@ impl Appliance {
     {
         let (table, bags) = self.stored(name);
         bags.row_count(table.placing)
+    }
+
+    /// The bags that make up a whole table, in the order of `whole`.
+    pub fn parts(&self, name: &Str) -> &[Bag]
+        requires { HasTable self.now name.now }
+        ensures { flat_map (λ bag. bag) result.now ≡ whole_of name.now self.now }
+    {
+        let (table, bags) = self.stored(name);
+        bags.parts(table.placing)
     }
 
     /// All rows of a table.

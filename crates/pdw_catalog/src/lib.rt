@@ -8,4 +8,7 @@ mod table;
 
 pub use appliance::Appliance;
 pub use catalog::Catalog;
-pub use table::{Column, MOST_COLUMNS, MOST_TABLES, MOST_TEXT_BYTES, Placing, Table};
+pub use table::{
+    Column, MOST_COLUMNS, MOST_HASH_ROWS, MOST_REPLICATED_ROWS, MOST_TABLES, MOST_TEXT_BYTES,
+    Placing, Table,
+};

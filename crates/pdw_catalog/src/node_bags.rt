@@ -84,6 +84,17 @@ impl NodeBags {
         }
     }
 
+    /// The bags that make up the whole table: those of all nodes, or one copy.
+    pub fn parts(&self, placing: Placing) -> &[Bag]
+        requires { 0 < length self.now }
+        ensures { flat_map (λ bag. bag) result.now ≡ whole_rows placing self.now }
+    {
+        match placing {
+            Placing::Hash(_) => self.bags.as_slice(),
+            Placing::Replicate => &self.bags[..1],
+        }
+    }
+
     /// All rows of the table.
     pub fn whole(&self, alloc: Global, placing: Placing) -> Result<Bag, NoMemory>
         requires { 0 < length self.now }
