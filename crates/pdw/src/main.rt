@@ -1,7 +1,11 @@
 //! The appliance as a program: a script of statements in, rows out.
 #![tactic(auto)]
 
+mod perform;
+mod refusal;
 mod statement;
+mod status;
+mod stop;
 mod text;
 mod words;
 
