@@ -1,0 +1,49 @@
+-- Names: where a run of name bytes ends, and that it is the only name that the bytes begin with.
+use Rattle.std.proofs.Common.{◌≡◌, ◌≢◌, ℕ, ◌+◌, Bool, true, false, not, ◌&&◌, List, [], ◌∷◌, ◌++◌, length, take, drop, slice_get, Option, Some, None, MatchOption, IfSome, refl, ap, sym, ◌∙◌, subst, arith, Bor}
+use Rattle.std.specs.List.{prefix_len, list_all, list_any}
+use Rattle.std.specs.Str.{bytes_eq}
+use Rattle.std.specs.Char.{is_ascii_digit}
+use Rattle.std.proofs.lemmas.Bool.{false≢true, and_parts, and_from, not_from_true, not_from_false, false_from_ne_true, and_right}
+use Rattle.std.proofs.lemmas.List.{append_cancel_left}
+use Rattle.std.proofs.Math.Seq.{take-append_seam, drop-append_seam}
+use Rattle.pdw.specs.Script.{is_name_byte, is_name, keywords}
+use Rattle.pdw.specs.Reading.{ends_name}
+
+-- what follows a text that the bytes begin with is all that can follow it
+pub after_only : (s p : List ℕ) (r : Option (Bor (List ℕ))) → MatchOption r ((rest : List ℕ) → s ≢ p ++ rest) (λ x. s ≡ p ++ x.now) → (rest : List ℕ) → s ≡ p ++ rest → MatchOption r ⊥ (λ x. x.now ≡ rest)
+after_only s p None h rest e = h rest e
+after_only s p (Some x) h rest e = append_cancel_left p x.now rest (sym h ∙ e)
+
+pub after_spelled : (s p : List ℕ) (r : Option (Bor (List ℕ))) → MatchOption r ((rest : List ℕ) → s ≢ p ++ rest) (λ x. s ≡ p ++ x.now) → IfSome r (λ x. s ≡ p ++ x.now)
+after_spelled s p None h = tt
+after_spelled s p (Some x) h = h
+
+pub prefix_len-run : (named rest : List ℕ) → list_all is_name_byte named ≡ true → ends_name rest ≡ true → prefix_len is_name_byte (named ++ rest) ≡ length named
+prefix_len-run [] [] all ends = refl
+prefix_len-run [] (c ∷ cs) all ends = let no : is_name_byte c ≡ false = false_from_ne_true (is_name_byte c) (λ h. false≢true (sym (not_from_true (is_name_byte c) h) ∙ ends)) in rw no
+prefix_len-run (c ∷ cs) rest all ends =
+    let parts = and_parts (is_name_byte c) (list_all is_name_byte cs) all in
+    rw parts.0 (ap (λ n. 1 + n) (prefix_len-run cs rest parts.1 ends) ∙ omega arith)
+
+pub is_name-bytes : (bytes : List ℕ) → is_name bytes ≡ true → list_all is_name_byte bytes ≡ true
+is_name-bytes [] h = refl
+is_name-bytes (c ∷ cs) h = (and_parts (not (is_ascii_digit c)) _ (and_parts (not (is_ascii_digit c) && list_all is_name_byte (c ∷ cs)) _ h).0).1
+
+-- the bytes up to the first that may not stand in a name are the only name that they can begin with
+pub run_only : (bytes front back : List ℕ) (n : ℕ) → n ≡ prefix_len is_name_byte bytes → front ≡ take n bytes → back ≡ drop n bytes → (named rest : List ℕ) → is_name named ≡ true → ends_name rest ≡ true → bytes ≡ named ++ rest → (front ≡ named) × (back ≡ rest)
+run_only bytes front back n counted front_is back_is named rest name ends e =
+    let counted_so : n ≡ length named = counted ∙ ap (prefix_len is_name_byte) e ∙ prefix_len-run named rest (is_name-bytes named name) ends in
+    (front_is ∙ ap (λ m. take m bytes) counted_so ∙ ap (take (length named)) e ∙ take-append_seam named rest, back_is ∙ ap (λ m. drop m bytes) counted_so ∙ ap (drop (length named)) e ∙ drop-append_seam named rest)
+
+-- the test of a name, by its parts
+pub is_name-at : (bytes : List ℕ) (first : ℕ) → slice_get bytes 0 ≡ Some first → is_name bytes ≡ (not (is_ascii_digit first) && list_all is_name_byte bytes && not (list_any (bytes_eq bytes) keywords))
+is_name-at [] first e = cc
+is_name-at (c ∷ cs) first e = let same : c ≡ first = cc in rw same refl
+
+and_true-right : (b : Bool) → (b && true) ≡ b
+and_true-right true = refl
+and_true-right false = refl
+
+pub is_name_from : (bytes : List ℕ) (first : ℕ) (passes : Bool) → Some first ≡ slice_get bytes 0 → false ≡ is_ascii_digit first → false ≡ list_any (bytes_eq bytes) keywords → passes ≡ list_all is_name_byte bytes → passes ≡ is_name bytes
+is_name_from bytes first passes at digit keyword all =
+    rw (is_name-at bytes first (sym at), ← digit, ← keyword) (all ∙ sym (and_true-right (list_all is_name_byte bytes)))
