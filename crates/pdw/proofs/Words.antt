@@ -1,11 +1,17 @@
 -- Names: where a run of name bytes ends, and that it is the only name that the bytes begin with.
-use Rattle.std.proofs.Common.{◌≡◌, ◌≢◌, ℕ, ◌+◌, Bool, true, false, not, ◌&&◌, List, [], ◌∷◌, ◌++◌, length, take, drop, slice_get, Option, Some, None, MatchOption, IfSome, refl, ap, sym, ◌∙◌, subst, arith, Bor}
+use Rattle.std.proofs.Common.{◌≡◌, ◌≢◌, ℕ, ◌+◌, ◌<◌, Bool, true, false, not, ◌&&◌, List, [], ◌∷◌, ◌++◌, length, take, drop, slice_get, Option, Some, None, MatchOption, IfSome, refl, ap, sym, ◌∙◌, subst, arith, Bor}
 use Rattle.std.specs.List.{prefix_len, list_all, list_any}
-use Rattle.std.specs.Str.{bytes_eq}
+use Rattle.std.specs.Str.{bytes_eq, is_utf8}
 use Rattle.std.specs.Char.{is_ascii_digit}
 use Rattle.std.proofs.lemmas.Bool.{false≢true, and_parts, and_from, not_from_true, not_from_false, false_from_ne_true, and_right}
 use Rattle.std.proofs.lemmas.List.{append_cancel_left}
 use Rattle.std.proofs.Math.Seq.{take-append_seam, drop-append_seam}
+use Rattle.std.proofs.lemmas.Bool.Decides.{nat_tests}
+use Rattle.std.proofs.lemmas.List.Elements.{All-weaker}
+use Rattle.std.proofs.lemmas.List.Sums.{AllPass-from_list_all}
+use Rattle.std.proofs.lemmas.Str.{is_utf8-from_IsUtf8, IsUtf8-from_ascii}
+use Rattle.std.proofs.lemmas.Str.Ascii.{IsAscii-from_all}
+use Rattle.pdw_base.specs.Text.{text_of}
 use Rattle.pdw.specs.Script.{is_name_byte, is_name, keywords}
 use Rattle.pdw.specs.Reading.{ends_name}
 
@@ -47,3 +53,13 @@ and_true-right false = refl
 pub is_name_from : (bytes : List ℕ) (first : ℕ) (passes : Bool) → Some first ≡ slice_get bytes 0 → false ≡ is_ascii_digit first → false ≡ list_any (bytes_eq bytes) keywords → passes ≡ list_all is_name_byte bytes → passes ≡ is_name bytes
 is_name_from bytes first passes at digit keyword all =
     rw (is_name-at bytes first (sym at), ← digit, ← keyword) (all ∙ sym (and_true-right (list_all is_name_byte bytes)))
+
+-- a name is plain text
+name_byte_ascii : (c : ℕ) → is_name_byte c ≡ true → c < 128
+name_byte_ascii c h = grind (arith, nat_tests)
+
+pub is_name-utf8 : (bytes : List ℕ) → is_name bytes ≡ true → is_utf8 bytes ≡ true
+is_name-utf8 bytes h = is_utf8-from_IsUtf8 bytes (IsUtf8-from_ascii bytes (IsAscii-from_all bytes (All-weaker _ _ name_byte_ascii bytes (AllPass-from_list_all is_name_byte bytes (is_name-bytes bytes h)))))
+
+pub text_is : (bytes : List ℕ) (found : Option (List ℕ)) → is_name bytes ≡ true → found ≡ text_of bytes → found ≡ Some bytes
+text_is bytes found name e = rw (is_name-utf8 bytes name) at e

@@ -1,1 +1,3 @@
+mod columns;
+mod tables;
 mod words;
