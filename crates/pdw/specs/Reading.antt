@@ -28,3 +28,7 @@ pub record AreColumns (columns : List Column) : Type 0 where
   pub some : 1 ≤ length columns
   pub most : length columns ≤ MOST_COLUMNS
   pub written : AllByRecursion IsWritten columns
+
+-- a byte that may stand in a file name
+abbrev pub is_file_byte : ℕ → Bool
+is_file_byte c = not ((c == 39) || (c == 10))

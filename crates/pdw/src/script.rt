@@ -1,3 +1,4 @@
 mod columns;
+mod lines;
 mod tables;
 mod words;
