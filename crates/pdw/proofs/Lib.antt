@@ -1,3 +1,5 @@
 pub mod Words
 pub mod Columns
 pub mod Tables
+pub mod Create
+pub mod Load
