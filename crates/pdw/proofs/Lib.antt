@@ -3,3 +3,4 @@ pub mod Columns
 pub mod Tables
 pub mod Create
 pub mod Load
+pub mod Parse
