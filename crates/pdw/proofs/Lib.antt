@@ -1,6 +1,6 @@
-pub mod Words
-pub mod Columns
-pub mod Tables
-pub mod Create
-pub mod Load
-pub mod Parse
+pub mod NameLemmas
+pub mod ColumnLemmas
+pub mod TableLemmas
+pub mod CreateLemmas
+pub mod LoadLemmas
+pub mod ScriptLemmas

@@ -5,7 +5,7 @@ ghost use Rattle.pdw.specs.Fault.{IsFault};
 mod columns;
 mod lines;
 mod tables;
-mod words;
+mod names;
 
 use self::lines::{after_three, create_line, load_line};
 use pdw_base::{NoMemory, Str};

@@ -5,7 +5,7 @@ ghost use Rattle.pdw_catalog.specs.declared.table.Column.{Column as TableColumn}
 ghost use Rattle.pdw.specs.Script.{is_name as name_bytes, kind_text, null_text, column_text, IsWritten};
 ghost use Rattle.pdw.specs.Reading.{ends_column, EndsColumns, AreColumns, columns_text};
 
-use super::words::{after, name};
+use super::names::{after, name};
 use pdw_base::{Kind, NoMemory, Str};
 use pdw_catalog::Column;
 use sqlite_items::Items;

@@ -5,7 +5,7 @@ ghost use Rattle.pdw.specs.Reading.{is_file_byte};
 
 use super::columns::columns;
 use super::tables::table;
-use super::words::{after, name_between};
+use super::names::{after, name_between};
 use pdw_base::{NoMemory, Str};
 use pdw_catalog::Table;
 use std::alloc::Global;

@@ -1,4 +1,4 @@
-use Rattle.pdw.proofs.Parse.{made_from, loaded_from, select_read, no_select, parsed, fault_load, fault_select, fault_more, more_left, finished}
+use Rattle.pdw.proofs.ScriptLemmas.{made_from, loaded_from, select_read, no_select, parsed, fault_load, fault_select, fault_more, more_left, finished}
 use Rattle.pdw.proofs.script.parse.Goals as goal
 
 pub returns-in_default-2-clause-fault : goal.returns-in_default-2-clause-fault

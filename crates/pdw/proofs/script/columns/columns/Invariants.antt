@@ -1,5 +1,5 @@
 use Rattle.std.proofs.Common.{◌≡◌, length}
-use Rattle.pdw.proofs.Columns.{Begun}
+use Rattle.pdw.proofs.ColumnLemmas.{Begun}
 use Rattle.pdw.proofs.script.columns.columns.Given as goal
 
 abbrev pub invariant-loop : goal.invariant-loop

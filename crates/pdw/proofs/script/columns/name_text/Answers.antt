@@ -1,5 +1,5 @@
 use Rattle.std.proofs.Common.{◌≡◌, Some}
-use Rattle.pdw.proofs.Words.{text_is}
+use Rattle.pdw.proofs.NameLemmas.{text_is}
 use Rattle.pdw.proofs.script.columns.name_text.Goals as goal
 
 pub unwrap-requires : goal.unwrap-requires

@@ -1,4 +1,4 @@
-use Rattle.pdw.proofs.Create.{no_name, no_columns, no_hash, no_table, create_spelled}
+use Rattle.pdw.proofs.CreateLemmas.{no_name, no_columns, no_hash, no_table, create_spelled}
 use Rattle.pdw.proofs.script.lines.create_line.Goals as goal
 
 pub returns-in_default-clause-only : goal.returns-in_default-clause-only

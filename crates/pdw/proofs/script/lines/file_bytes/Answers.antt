@@ -2,8 +2,8 @@ use Rattle.std.proofs.Common.{◌≡◌, ◌≤◌, ◌<◌, ◌⊎◌, inl, inr
 use Rattle.std.proofs.lemmas.Bool.Decides.{nat_tests}
 use Rattle.std.proofs.lemmas.List.Sums.{prefix_len-le-length}
 use Rattle.pdw.specs.Reading.{is_file_byte}
-use Rattle.pdw.proofs.Words.{front_all}
-use Rattle.pdw.proofs.Load.{file_only, none_left, some_left}
+use Rattle.pdw.proofs.NameLemmas.{front_all}
+use Rattle.pdw.proofs.LoadLemmas.{file_only, none_left, some_left}
 use Rattle.pdw.proofs.script.lines.file_bytes.Goals as goal
 
 pub split_at-requires : goal.split_at-requires

@@ -1,5 +1,5 @@
 use Rattle.std.proofs.Common.{sym, ◌∙◌}
-use Rattle.pdw.proofs.Load.{file_named, load_spelled}
+use Rattle.pdw.proofs.LoadLemmas.{file_named, load_spelled}
 use Rattle.pdw.proofs.script.lines.load_line.Goals as goal
 
 pub returns-in-Some-2-clause-spelled : goal.returns-in-Some-2-clause-spelled

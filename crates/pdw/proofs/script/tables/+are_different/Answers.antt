@@ -1,4 +1,4 @@
-use Rattle.pdw.proofs.Tables.{apart_on, apart_not}
+use Rattle.pdw.proofs.TableLemmas.{apart_on, apart_not}
 use Rattle.pdw.proofs.script.tables.+are_different.Goals as goal
 
 pub returns-then-not-is_taken : goal.returns-then-not-is_taken

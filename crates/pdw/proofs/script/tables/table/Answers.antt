@@ -1,5 +1,5 @@
 use Rattle.std.proofs.Common.{refl, sym}
-use Rattle.pdw.proofs.Tables.{creates_place, place_some}
+use Rattle.pdw.proofs.TableLemmas.{creates_place, place_some}
 use Rattle.pdw.proofs.script.tables.table.Goals as goal
 
 pub returns-in_default : goal.returns-in_default

@@ -3,8 +3,8 @@ use Rattle.std.proofs.lemmas.Bool.{false≢true}
 use Rattle.std.proofs.lemmas.List.Sums.{prefix_len-le-length}
 use Rattle.std.proofs.Common.{◌≤◌, length, subst, ℕ, ◌≡◌, true, false}
 use Rattle.pdw.specs.Script.{is_name_byte, is_name}
-use Rattle.pdw.proofs.Words.{run_only}
-use Rattle.pdw.proofs.script.words.name.Goals as goal
+use Rattle.pdw.proofs.NameLemmas.{run_only}
+use Rattle.pdw.proofs.script.names.name.Goals as goal
 
 pub split_at-requires : goal.split_at-requires
 split_at-requires c = rw c.name_len.ensures (prefix_len-le-length is_name_byte c.args.bytes.now)

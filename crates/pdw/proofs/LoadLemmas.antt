@@ -9,7 +9,7 @@ use Rattle.std.proofs.lemmas.Option.{cond_some}
 use Rattle.pdw_base.specs.Text.{text_of}
 use Rattle.pdw.specs.Script.{IsFileName, load_text}
 use Rattle.pdw.specs.Reading.{is_file_byte}
-use Rattle.pdw.proofs.Words.{front_only}
+use Rattle.pdw.proofs.NameLemmas.{front_only}
 
 plain_bytes : (file : List ℕ) → list_any (λ c. (c == 39) || (c == 10)) file ≡ false → list_all is_file_byte file ≡ true
 plain_bytes [] h = refl

@@ -10,6 +10,7 @@ use Rattle.std.proofs.Math.Seq.{take-append_seam, drop-append_seam}
 use Rattle.std.proofs.lemmas.Bool.Decides.{nat_tests}
 use Rattle.std.proofs.lemmas.List.Elements.{All-weaker}
 use Rattle.std.proofs.lemmas.List.Sums.{AllPass-from_list_all, list_all-from_AllPass, prefix_len_passes}
+use Rattle.std.proofs.lemmas.Option.{same_Some}
 use Rattle.std.proofs.lemmas.Str.{is_utf8-from_IsUtf8, IsUtf8-from_ascii}
 use Rattle.std.proofs.lemmas.Str.Ascii.{IsAscii-from_all}
 use Rattle.pdw_base.specs.Text.{text_of}
@@ -64,7 +65,7 @@ run_only bytes front back n counted front_is back_is named rest name ends e =
 -- the test of a name, by its parts
 pub is_name-at : (bytes : List ℕ) (first : ℕ) → slice_get bytes 0 ≡ Some first → is_name bytes ≡ (not (is_ascii_digit first) && list_all is_name_byte bytes && not (list_any (bytes_eq bytes) keywords))
 is_name-at [] first e = cc
-is_name-at (c ∷ cs) first e = let same : c ≡ first = cc in rw same refl
+is_name-at (c ∷ cs) first e = ap (λ d. not (is_ascii_digit d) && list_all is_name_byte (c ∷ cs) && not (list_any (bytes_eq (c ∷ cs)) keywords)) (same_Some c first e)
 
 and_true-right : (b : Bool) → (b && true) ≡ b
 and_true-right true = refl

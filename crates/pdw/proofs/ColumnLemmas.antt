@@ -91,16 +91,6 @@ begun_more bytes taken left column rest next b f comma = record {
 }
 
 -- no comma follows: the columns end here
-pub begun_ends : (bytes : List ℕ) (taken : List Column) (left : List ℕ) (column : Column) (rest : List ℕ) → Begun bytes taken left → First left column rest → bytes ≡ columns_text (taken ++ column ∷ []) ++ rest
-begun_ends bytes taken left column rest b f = b.spelled column [] rest (f.text ∙ sym (first_apart column [] rest))
-
-pub begun_are : (bytes : List ℕ) (taken : List Column) (left : List ℕ) (column : Column) (rest : List ℕ) → Begun bytes taken left → First left column rest → length taken < MOST_COLUMNS → AreColumns (taken ++ column ∷ [])
-begun_are bytes taken left column rest b f few = record {
-  some = simp length-append (omega arith);
-  most = simp length-append (omega arith);
-  written = written_append taken (column ∷ []) b.written (f.written, tt);
-}
-
 ended : (taken columns : List Column) (column : Column) (rest behind : List ℕ) (others : List Column) → EndsColumns behind → ((next : List ℕ) → rest ≢ codes ", " ++ next) → columns ≡ taken ++ column ∷ others → rest ≡ others_text others ++ behind → (taken ++ column ∷ [] ≡ columns) × (rest ≡ behind)
 ended taken columns column rest behind [] ends none whole e = (sym whole, e)
 ended taken columns column rest behind (other ∷ others) ends none whole e = absurd (none _ e)
@@ -118,10 +108,3 @@ begun_stops bytes taken left b none columns behind are ends e =
     let all : AllByRecursion IsWritten (taken ++ r.next ∷ r.others) = subst (AllByRecursion IsWritten) r.whole are.written in
     let written = written_behind taken (r.next ∷ r.others) all in
     none r.next (others_text r.others ++ behind) written.0 (others_end r.others behind ends) (r.text ∙ first_apart r.next r.others behind)
-
--- one column more than a table may have
-pub begun_full : (bytes : List ℕ) (taken : List Column) (left : List ℕ) → Begun bytes taken left → MOST_COLUMNS ≤ length taken → (columns : List Column) (behind : List ℕ) → AreColumns columns → EndsColumns behind → bytes ≡ columns_text columns ++ behind → ⊥
-begun_full bytes taken left b full columns behind are ends e =
-    let r = b.only columns behind are ends e in
-    let more : length columns ≡ length (taken ++ r.next ∷ r.others) = ap length r.whole in
-    omega (arith, length-append {A = Column}, are.most)
