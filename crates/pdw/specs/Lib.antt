@@ -6,3 +6,5 @@ pub mod Refusal
 pub mod RefusalLine
 pub mod Output
 pub mod Perform
+pub mod Reading
+pub mod Fault

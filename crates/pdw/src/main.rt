@@ -3,6 +3,7 @@
 
 mod perform;
 mod refusal;
+mod script;
 mod statement;
 mod status;
 mod stop;
