@@ -7,3 +7,4 @@ pub mod TableLemmas
 pub mod CreateLemmas
 pub mod LoadLemmas
 pub mod ScriptLemmas
+pub mod RunLemmas

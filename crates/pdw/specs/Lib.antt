@@ -8,3 +8,5 @@ pub mod Output
 pub mod Perform
 pub mod Reading
 pub mod Fault
+pub mod Run
+pub mod Status

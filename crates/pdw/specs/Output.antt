@@ -101,7 +101,7 @@ EndsAfter Finished out = out ≡ []
 EndsAfter Refused out = ⊥
 EndsAfter (Unread file) out = ⊥
 EndsAfter Cut out = ⊥
-EndsAfter Stopped out = ⊥
+EndsAfter Stopped out = out ≡ []
 
 -- the script ends at statement k, of which this is written
 abbrev pub EndsIn : Held → ℕ → Plain → Statement → End → List ℕ → Type 0
@@ -124,20 +124,19 @@ Writes held k old (statement ∷ statements) end out =
 abbrev pub statements_of : Table → List ℕ → List Statement
 statements_of table file = Create table ∷ Load table.name file ∷ Select table.name ∷ []
 
--- what the bytes of a script write: the line of a text fault alone, or what its statements write
+-- what the bytes of a script write: the line of a text fault alone, or what its statements write; nothing where memory was wanted to tell which
 abbrev pub ScriptWrites : Held → ℕ → List ℕ → End → List ℕ → Type 0
 ScriptWrites held nodes script end out =
     ((MOST_SCRIPT_BYTES < length script) × EndsLine end long_script_line out)
     ⊎ ((length script ≤ MOST_SCRIPT_BYTES) × (at : ℕ) × FaultAt script at × EndsLine end (syntax_line at) out)
     ⊎ ((length script ≤ MOST_SCRIPT_BYTES) × (table : Table) × (file : List ℕ) × Spells script table file
     × Writes held 1 (start nodes) (statements_of table file) end out)
+    ⊎ ((end ≡ Stopped) × (out ≡ []))
 
--- what the script of a name writes; nothing where it is not read or memory is wanted for it
+-- what the script of a name writes; nothing where it was not read
 abbrev pub Outputs : Held → ℕ → List ℕ → End → List ℕ → Type 0
 Outputs held nodes name end out =
-    ((script : List ℕ) × IsContent (held name) script × ScriptWrites held nodes script end out)
-    ⊎ ((end ≡ Unread name) × (out ≡ []))
-    ⊎ ((end ≡ Stopped) × (out ≡ []))
+    ((script : List ℕ) × IsContent (held name) script × ScriptWrites held nodes script end out) ⊎ ((end ≡ Unread name) × (out ≡ []))
 
 -- ---- the status
 

@@ -4,8 +4,8 @@ ghost use Rattle.pdw.specs.Fault.{IsFault};
 
 mod columns;
 mod lines;
-mod tables;
 mod names;
+mod tables;
 
 use self::lines::{after_three, create_line, load_line};
 use pdw_base::{NoMemory, Str};

@@ -1,3 +1,5 @@
+ghost use Rattle.std.specs.Prelude.{◌≡◌};
+
 /// How a run ended.
 #[derive(Clone, Copy, Debug, PartialEq, Eq)]
 pub enum Status {
@@ -13,4 +15,22 @@ pub enum Status {
     WriteFault,
     /// Memory was wanted.
     Memory,
+}
+
+impl Status {
+    ghost use Rattle.pdw.specs.Status.{exit_of};
+
+    /// The exit status of the program.
+    pub fn exit_code(self) -> u8
+        ensures { result ≡ exit_of self }
+    {
+        match self {
+            Status::Done => 0,
+            Status::Refused => 1,
+            Status::BadWords => 2,
+            Status::ReadFault => 3,
+            Status::WriteFault => 4,
+            Status::Memory => 5,
+        }
+    }
 }
