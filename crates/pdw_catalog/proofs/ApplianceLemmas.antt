@@ -1,15 +1,15 @@
 -- An appliance before and after a call.
-use Rattle.std.proofs.Common.{◌≡◌, ℕ, suc, ◌+◌, ◌<◌, ◌≤◌, Bool, true, false, List, [], ◌∷◌, ◌++◌, length, get_or, set, position, remove, refl, sym, ap, ◌∙◌, subst, arith, Option, Some, None, is_some, IsSome, IfSome, Result, Ok, Err, OnOk, OnErr}
+use Rattle.std.proofs.Common.{◌≡◌, ℕ, ◌+◌, ◌<◌, ◌≤◌, List, [], ◌∷◌, ◌++◌, length, get_or, set, position, remove, refl, sym, ap, ◌∙◌, subst, arith, Some, IsSome, IfSome, Result, Ok, Err, OnOk, OnErr}
 use Rattle.std.specs.List.{AllByRecursion}
-use Rattle.std.specs.Map.{keys_of, remove_entry}
+use Rattle.std.specs.Map.{keys_of}
 use Rattle.std.specs.Str.{bytes_eq}
-use Rattle.std.proofs.lemmas.List.{length-append, length-set}
+use Rattle.std.proofs.lemmas.List.{length-append}
 use Rattle.indexmap.proofs.MapLemmas.{some_index}
 use Rattle.pdw_base.specs.SameBag.{SameBag}
 use Rattle.pdw_catalog.specs.declared.table.Table.{Table}
 use Rattle.pdw_catalog.specs.Table.{Row, FitsTable, most_rows}
 use Rattle.pdw_catalog.specs.Catalog.{table_named}
-use Rattle.pdw_catalog.specs.Appliance.{Bags, Contents, IsSound, Stores, StoresAll, CanCreate, CanAppend, GainsRows, HasTable, bags_of, bags_named, bags_without, creating, dropping, whole_in, whole_of, whole_rows}
+use Rattle.pdw_catalog.specs.Appliance.{Bags, Contents, IsSound, Stores, CanCreate, CanAppend, GainsRows, HasTable, bags_of, bags_without, creating, dropping, whole_in, whole_of, whole_rows}
 use Rattle.pdw_catalog.specs.NodeBags.{Adds}
 use Rattle.pdw_catalog.proofs.StoresLemmas.{Stores-added, Stores-new, whole_added}
 use Rattle.pdw_catalog.proofs.TablesLemmas.{IsPlace, IsPlace-position, IsPlace-within, Stores-named, StoresAll-push, StoresAll-set, StoresAll-without, bags_named-at, bags_named-set, bags_named-set_other, bags_without-at, length-StoresAll, length-remove_entry}

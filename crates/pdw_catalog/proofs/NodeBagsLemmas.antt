@@ -1,13 +1,13 @@
 -- What becomes of the rows at the nodes, step by step.
-use Rattle.std.proofs.Common.{◌≡◌, ◌≢◌, ℕ, zero, suc, ◌+◌, ◌<◌, ◌≤◌, ◌==◌, Bool, true, false, cond, List, [], ◌∷◌, ◌++◌, length, map, get_or, set, take, drop, refl, sym, ap, ◌∙◌, subst, arith, inl, inr, append_assoc, Result, Ok, Err, OnErr}
-use Rattle.std.specs.List.{filter, flat_map, slice_index_or, slice_index}
+use Rattle.std.proofs.Common.{◌≡◌, ℕ, zero, suc, ◌+◌, ◌<◌, ◌≤◌, ◌==◌, Bool, true, false, cond, List, [], ◌∷◌, ◌++◌, length, map, get_or, set, take, drop, refl, sym, ap, ◌∙◌, subst, arith, inl, inr, append_assoc, Result, Ok, Err, OnErr}
+use Rattle.std.specs.List.{flat_map}
 use Rattle.std.proofs.lemmas.List.{append-nil, length-set, length-append, get_or-set_same, get_or-set_other, ext_get_or, get_or-map, take_at, take_all, drop_all, set-get_or, get_or_read}
 use Rattle.std.proofs.lemmas.List.Edits.{map_over_more}
 use Rattle.std.proofs.lemmas.List.Elements.{filter-append}
 use Rattle.std.proofs.lemmas.Bool.Decides.{eqb_tells}
 use Rattle.pdw_base.specs.Hash.{node_for}
-use Rattle.pdw_base.specs.SameBag.{SameBag, weigh}
-use Rattle.pdw_base.proofs.SameBagLaws.{SameBag-≡, SameBag-trans, weigh-append}
+use Rattle.pdw_base.specs.SameBag.{weigh}
+use Rattle.pdw_base.proofs.SameBagLaws.{SameBag-≡, weigh-append}
 use Rattle.pdw_catalog.specs.Table.{Row, value_at}
 use Rattle.pdw_catalog.specs.Appliance.{Bags, at_node}
 use Rattle.pdw_catalog.specs.NodeBags.{placed_at, Placed, Copied, Extends, Shortened}

@@ -1,17 +1,17 @@
 -- What a table stores, when it is new and when rows are added.
-use Rattle.std.proofs.Common.{◌≡◌, ℕ, zero, suc, ◌+◌, ◌<◌, ◌≤◌, ◌==◌, Bool, true, false, cond, List, [], ◌∷◌, ◌++◌, length, map, get_or, replicate, refl, sym, ap, ◌∙◌, subst, arith}
+use Rattle.std.proofs.Common.{◌≡◌, ℕ, zero, suc, ◌+◌, ◌<◌, ◌≤◌, ◌==◌, Bool, true, false, cond, List, [], ◌∷◌, ◌++◌, length, replicate, refl, sym, ap, ◌∙◌, subst, arith}
 use Rattle.std.specs.List.{AllByRecursion, filter, flat_map}
 use Rattle.std.proofs.lemmas.Bool.{eqb-true}
 use Rattle.std.proofs.lemmas.List.{length-append, length-replicate, length-map, get_or-map}
 use Rattle.pdw_base.specs.Hash.{node_for}
 use Rattle.pdw_base.specs.SameBag.{SameBag}
-use Rattle.pdw_base.proofs.SameBagLaws.{SameBag-refl, SameBag-≡, SameBag-sym, SameBag-trans, SameBag-append, SameBag-length}
+use Rattle.pdw_base.proofs.SameBagLaws.{SameBag-refl, SameBag-≡, SameBag-trans, SameBag-append, SameBag-length}
 use Rattle.pdw_catalog.specs.declared.table.Placing.{Placing}
 use Rattle.pdw_catalog.specs.declared.table.Placing.TheVariants.{Hash, Replicate}
 use Rattle.pdw_catalog.specs.declared.table.Table.{Table}
 use Rattle.pdw_catalog.specs.Table.{Row, FitsTable, value_at, most_rows}
 use Rattle.pdw_catalog.specs.Appliance.{Bags, IsTable, Stores, StandsWhere, at_node, whole_rows}
-use Rattle.pdw_catalog.specs.NodeBags.{Adds, Copied, Placed, placed_at}
+use Rattle.pdw_catalog.specs.NodeBags.{Adds, Copied, placed_at}
 
 module _ (P : Row → Type 0) where
   all_append : (xs ys : List Row) → AllByRecursion P xs → AllByRecursion P ys → AllByRecursion P (xs ++ ys)

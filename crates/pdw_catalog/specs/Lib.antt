@@ -2,3 +2,4 @@ pub mod Table
 pub mod Catalog
 pub mod Appliance
 pub mod NodeBags
+pub mod Sample

@@ -1,13 +1,12 @@
 -- What a table's rows are.
-use Rattle.std.specs.Prelude.{◌≡◌, ⊤, ℕ, ◌≤◌, ◌<◌, Bool, true, false, List, [], ◌∷◌, length, slice_index_or}
+use Rattle.std.specs.Prelude.{◌≡◌, ⊤, ℕ, ◌≤◌, ◌<◌, Bool, true, List, [], ◌∷◌, length, slice_index_or}
 use Rattle.pdw_base.specs.declared.value.Value.{Value}
 use Rattle.pdw_base.specs.declared.value.Value.TheVariants.{Null, Int, Text, Wide}
 use Rattle.pdw_base.specs.Value.{IsOfKind}
 use Rattle.pdw_catalog.specs.declared.table.Column.{Column}
-use Rattle.pdw_catalog.specs.declared.table.Table.{Table}
 use Rattle.pdw_catalog.specs.declared.table.Placing.{Placing}
 use Rattle.pdw_catalog.specs.declared.table.Placing.TheVariants.{Hash, Replicate}
-use Rattle.pdw_catalog.specs.declared.table.TheConstants.{MOST_COLUMNS, MOST_HASH_ROWS, MOST_REPLICATED_ROWS, MOST_TEXT_BYTES}
+use Rattle.pdw_catalog.specs.declared.table.TheConstants.{MOST_HASH_ROWS, MOST_REPLICATED_ROWS, MOST_TEXT_BYTES}
 
 abbrev pub Row : Type 0
 Row = List Value

@@ -2,7 +2,7 @@ use Rattle.std.proofs.Common.{arith, ap, sym, subst, ◌∙◌, ◌≡◌, [], l
 use Rattle.std.specs.Option.{option_map}
 use Rattle.std.proofs.lemmas.List.{get_or_read}
 use Rattle.std.proofs.lemmas.Result.{on_ok_weaker}
-use Rattle.pdw_catalog.specs.Appliance.{Bags, CanAppend, Contents, GainsRows, Stores, bags_of}
+use Rattle.pdw_catalog.specs.Appliance.{CanAppend, Contents, GainsRows}
 use Rattle.pdw_catalog.specs.NodeBags.{Adds}
 use Rattle.pdw_catalog.proofs.ApplianceLemmas.{IsThere-position, Stores-found, IsSound-with_bags, GainsRows-with_bags, with_bags}
 use Rattle.pdw_catalog.proofs.TablesLemmas.{place_found}

@@ -1,5 +1,5 @@
-use Rattle.std.proofs.Common.{sym, subst, ◌++◌, ◌∷◌, []}
-use Rattle.pdw_catalog.specs.Appliance.{Contents, CanCreate, IsSound}
+use Rattle.std.proofs.Common.{sym, subst}
+use Rattle.pdw_catalog.specs.Appliance.{Contents, CanCreate}
 use Rattle.pdw_catalog.proofs.ApplianceLemmas.{IsSound-creating}
 use Rattle.pdw_catalog.proofs.CreatedLemmas.{GainsTable-creating}
 use Rattle.pdw_catalog.proofs.appliance.Appliance.create_table.Goals as goal

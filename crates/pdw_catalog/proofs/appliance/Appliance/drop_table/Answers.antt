@@ -1,6 +1,4 @@
-use Rattle.std.proofs.Common.{arith, ap, sym, subst, ◌∙◌, []}
-use Rattle.std.specs.Map.{remove_entry}
-use Rattle.std.specs.Str.{bytes_eq}
+use Rattle.std.proofs.Common.{arith, ap, sym, subst, ◌∙◌}
 use Rattle.pdw_catalog.specs.Appliance.{Contents, HasTable, dropping}
 use Rattle.pdw_catalog.proofs.ApplianceLemmas.{IsThere-position, IsSound-dropping, dropping-at, place_is_some}
 use Rattle.pdw_catalog.proofs.appliance.Appliance.drop_table.Goals as goal

@@ -1,7 +1,7 @@
 use Rattle.std.proofs.Common.{arith, ap, sym, subst, ◌∙◌, []}
 use Rattle.std.specs.Option.{option_map}
 use Rattle.std.proofs.lemmas.List.{get_or_read}
-use Rattle.pdw_catalog.specs.Appliance.{Bags, Contents, Stores, bags_of}
+use Rattle.pdw_catalog.specs.Appliance.{Contents, Stores, bags_of}
 use Rattle.pdw_catalog.proofs.ApplianceLemmas.{IsThere-position, Stores-found}
 use Rattle.pdw_catalog.proofs.TablesLemmas.{place_found}
 use Rattle.pdw_catalog.proofs.appliance.Appliance.stored.Goals as goal

@@ -1,4 +1,4 @@
-use Rattle.std.proofs.Common.{sym, ap, ◌∙◌, ◌++◌, ◌-◌, refl, length, map, take, drop, arith, subst}
+use Rattle.std.proofs.Common.{ap, ◌∙◌, ◌++◌, ◌-◌, refl, length, map, take, drop, arith}
 use Rattle.std.proofs.lemmas.Result.{on_ok_weaker, on_err_weaker}
 use Rattle.pdw_catalog.proofs.NodeBagsLemmas.{Copied-last, Extends-kept, length-Copied}
 use Rattle.pdw_catalog.proofs.node_bags.NodeBags.copy_to_each.Goals as goal

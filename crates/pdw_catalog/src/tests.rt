@@ -1,0 +1,149 @@
+ghost use Rattle.std.specs.Prelude.{◌≡◌, [], ◌∷◌, Some, vec_len, IfOk};
+ghost use Rattle.std.specs.List.{AllByRecursion};
+ghost use Rattle.pdw_catalog.specs.Table.{FitsTable, IsPlaced};
+ghost use Rattle.pdw_catalog.specs.Appliance.{creating, empty_of};
+ghost use Rattle.pdw_catalog.specs.Sample.{sample_columns, sample_table};
+
+use crate::{Appliance, Column, Placing, Table};
+use pdw_base::{Bag, Kind, NoMemory, NodeCount, Row, Str, Value};
+use sqlite_items::Items;
+use std::alloc::Global;
+use std::process::Abort;
+use std::test::Fail;
+
+fn text(alloc: Global, text: &str) -> Result<Str, NoMemory>
+    ensures { IfOk result (λ held. held ≡ text.now) }
+{
+    Ok(Str::from_bytes(alloc, text.as_bytes())?.unwrap())
+}
+
+fn sample(alloc: Global, name: Str, placing: Placing) -> Result<Table, NoMemory>
+    ensures { IfOk result (λ table. table ≡ sample_table name placing) }
+{
+    let mut columns = Vec::new(alloc);
+    columns.push(Column {
+        name: text(alloc, "a")?,
+        kind: Kind::Int,
+        nullable: true,
+    })?;
+    columns.push(Column {
+        name: text(alloc, "b")?,
+        kind: Kind::Text,
+        nullable: true,
+    })?;
+    Ok(Table {
+        name,
+        columns: Items::from_vec(columns),
+        placing,
+    })
+}
+
+fn row(alloc: Global, number: Value, letter: Str) -> Result<Row, NoMemory>
+    ensures { IfOk result (λ row. row ≡ number ∷ Value.Text letter ∷ []) }
+{
+    let mut values = Vec::new(alloc);
+    values.push(number)?;
+    values.push(Value::Text(letter))?;
+    Ok(Row::from_values(values))
+}
+
+// (4, 'x') and (NULL, 'y').
+fn two_rows(alloc: Global) -> Result<Vec<Row>, NoMemory>
+    ensures count { IfOk result (λ rows. vec_len rows ≡ 2) }
+    ensures fit { IfOk result (λ rows. AllByRecursion (FitsTable sample_columns) rows.items) }
+{
+    let mut rows = Vec::new(alloc);
+    rows.push(row(alloc, Value::Int(4), text(alloc, "x")?)?)?;
+    rows.push(row(alloc, Value::Null, text(alloc, "y")?)?)?;
+    Ok(rows)
+}
+
+// The first value of each row, None for NULL.
+fn numbers(alloc: Global, bag: &Bag) -> Result<Vec<Option<i64>>, NoMemory> {
+    let mut numbers = Vec::new(alloc);
+    for row in bag.rows() {
+        numbers.push(match row.values().first() {
+            Some(Value::Int(number)) => Some(*number),
+            _ => None,
+        })?;
+    }
+    Ok(numbers)
+}
+
+// Three compute nodes and the empty table t.
+fn with_table(alloc: Global, placing: Placing) -> Result<Appliance, NoMemory>
+    requires { IsPlaced placing 2 }
+    ensures { IfOk result (λ appliance. appliance ≡ creating (empty_of 3) (sample_table (116 ∷ []) placing)) }
+{
+    let mut appliance = Appliance::new(alloc, NodeCount::new(3).unwrap())?;
+    let table = sample(alloc, text(alloc, "t")?, placing)?;
+    appliance.create_table(alloc, table)?;
+    Ok(appliance)
+}
+
+fn check_placing(
+    rt: &impl Abort,
+    alloc: Global,
+    placing: Placing,
+    at_nodes: [&[Option<i64>]; 3],
+    whole: &[Option<i64>],
+) -> Result<(), NoMemory>
+    requires { IsPlaced placing 2 }
+{
+    let mut appliance = with_table(alloc, placing)?;
+    let name = text(alloc, "t")?;
+    let rows = two_rows(alloc)?;
+    appliance.append_rows(alloc, &name, rows)?;
+    for node in 0..3 {
+        let found = numbers(alloc, appliance.rows_at(&name, node))?;
+        assert_eq!(rt; found.as_slice(), at_nodes[node as usize], "at node {node}");
+    }
+    assert_eq!(rt; appliance.row_count(&name), whole.len());
+    let all = appliance.whole(alloc, &name)?;
+    let found = numbers(alloc, &all)?;
+    assert_eq!(rt; found.as_slice(), whole);
+    Ok(())
+}
+
+#[test]
+fn rows_stand_where_the_placing_says(rt: HostRuntime) -> Result<(), Fail> {
+    let four: &[Option<i64>] = &[Some(4)];
+    let null: &[Option<i64>] = &[None];
+    let both: &[Option<i64>] = &[Some(4), None];
+    check_placing(
+        &rt,
+        rt.alloc(),
+        Placing::Hash(0),
+        [null, four, &[]],
+        &[None, Some(4)],
+    )?;
+    check_placing(
+        &rt,
+        rt.alloc(),
+        Placing::Replicate,
+        [both, both, both],
+        both,
+    )?;
+    Ok(())
+}
+
+#[test]
+fn dropping_leaves_the_other_table(rt: HostRuntime) -> Result<(), Fail> {
+    let alloc = rt.alloc();
+    let mut appliance = with_table(alloc, Placing::Hash(0))?;
+    let first = text(alloc, "t")?;
+    let second = text(alloc, "u")?;
+    let table = sample(alloc, text(alloc, "u")?, Placing::Replicate)?;
+    appliance.create_table(alloc, table)?;
+    let rows = two_rows(alloc)?;
+    appliance.append_rows(alloc, &second, rows)?;
+    appliance.drop_table(&first);
+    assert_eq!(rt; appliance.nodes().get(), 3);
+    assert_eq!(rt; appliance.catalog().len(), 1);
+    assert!(rt; !appliance.catalog().is_empty());
+    assert!(rt; appliance.catalog().table(&first).is_none());
+    assert!(rt; appliance.catalog().table(&second).is_some());
+    let found = numbers(alloc, appliance.rows_at(&second, 1))?;
+    assert_eq!(rt; found.as_slice(), [Some(4), None].as_slice());
+    Ok(())
+}
