@@ -5,12 +5,12 @@ use Rattle.std.specs.Str.Parse.{signed_digits_value, without_leading_sign}
 use Rattle.pdw_base.specs.declared.value.Kind.{Kind}
 use Rattle.pdw_base.specs.declared.value.Kind.TheVariants as kind
 use Rattle.pdw_base.specs.declared.value.Value.{Value}
-use Rattle.pdw_base.specs.declared.value.Value.TheVariants.{Null, Int, Text, Wide}
+use Rattle.pdw_base.specs.declared.value.Value.TheVariants.{Null, Int, Text}
 use Rattle.pdw_catalog.specs.declared.table.Column.{Column}
 use Rattle.pdw_catalog.specs.declared.table.TheConstants.{MOST_TEXT_BYTES}
 use Rattle.pdw_load.specs.declared.field.Place.{Place}
 use Rattle.pdw_load.specs.declared.load_error.LoadError.{LoadError}
-use Rattle.pdw_load.specs.declared.load_error.LoadError.TheVariants.{FieldCount, BadInt, LongText, NullField, NotUtf8, Memory}
+use Rattle.pdw_load.specs.declared.load_error.LoadError.TheVariants.{BadInt, LongText, NullField, NotUtf8, Memory}
 
 -- `\N` stands for NULL in every column, quoted or not
 abbrev pub is_null : List ℕ → Bool
