@@ -7,7 +7,8 @@ use Rattle.csv.proofs.RecordFacts.{field-get}
 use Rattle.pdw_base.specs.declared.value.Value.{Value}
 use Rattle.pdw_catalog.specs.Table.{Row}
 use Rattle.pdw_catalog.specs.declared.table.Column.{Column}
-use Rattle.pdw_load.specs.Field.{IsFirstFault, field_faults, value_of}
+use Rattle.pdw_load.specs.Field.{field_faults, value_of}
+use Rattle.pdw_load.specs.LoadError.{IsFirstFault}
 use Rattle.pdw_load.specs.Records.{Fields, faults_along, faults_from, record_faults, row_of}
 use Rattle.pdw_load.specs.declared.load_error.LoadError.{LoadError}
 

@@ -1,5 +1,6 @@
 ghost use Rattle.std.specs.Prelude.{◌≡◌, [], IfOk, IfErr};
-ghost use Rattle.pdw_load.specs.Field.{IsFirstFault, field_faults, number_of, text_faults, value_of};
+ghost use Rattle.pdw_load.specs.Field.{field_faults, number_of, text_faults, value_of};
+ghost use Rattle.pdw_load.specs.LoadError.{IsFirstFault};
 
 use crate::LoadError;
 use pdw_base::{Kind, Str, Value};

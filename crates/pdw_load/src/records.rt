@@ -2,7 +2,7 @@ ghost use Rattle.std.specs.Prelude.{◌≡◌, [], ◌≤◌, length, IfOk, IfEr
 ghost use Rattle.std.specs.List.{AllByRecursion};
 ghost use Rattle.csv.specs.Records.{fields_of};
 ghost use Rattle.pdw_catalog.specs.Table.{FitsTable};
-ghost use Rattle.pdw_load.specs.Field.{IsFirstFault};
+ghost use Rattle.pdw_load.specs.LoadError.{IsFirstFault};
 ghost use Rattle.pdw_load.specs.Records.{faults_of, record_faults, records_of, row_of, rows_of};
 
 use crate::LoadError;
@@ -40,7 +40,8 @@ fn read_record(
 
 /// The rows of all records of a CSV file, or the first fault.
 ///
-/// Fields stand between commas, in double quotes or not; there is no header, and empty lines are no records.
+/// Fields stand between commas, in double quotes or not. There is no header. Empty lines and a byte order mark at
+/// the start are no part of the records.
 pub fn read_table(alloc: Global, bytes: &[u8], t: &Table) -> Result<Vec<Row>, LoadError>
     requires { length t.now.columns ≤ MOST_COLUMNS }
     ensures faultless { IfOk result (λ rows. faults_of t.now (records_of bytes.now) ≡ []) }

@@ -1,7 +1,7 @@
 use Rattle.std.proofs.Common.{rules, ◌≡◌, ◌<◌, length, sym, ◌∙◌, arith}
 use Rattle.csv.specs.Records.{fields_of}
 use Rattle.csv.proofs.RecordFacts.{field-there}
-use Rattle.pdw_load.specs.Field.{IsFirstFault}
+use Rattle.pdw_load.specs.LoadError.{IsFirstFault}
 use Rattle.pdw_load.specs.Records.{record_faults}
 use Rattle.pdw_load.proofs.FaultLemmas.{faults-more, first-of, left-columns, left-fields, record-faults, values-more}
 use Rattle.pdw_load.proofs.records.read_record.Goals as goal

@@ -1,6 +1,6 @@
 use Rattle.std.proofs.Common.{Bor, rules, ℕ, List, Some, true, false, sym, inl, ◌∙◌, append-nil, vec_len}
 use Rattle.csv.specs.Records.{fields_of}
-use Rattle.pdw_load.specs.Field.{IsFirstFault}
+use Rattle.pdw_load.specs.LoadError.{IsFirstFault}
 use Rattle.pdw_load.specs.Records.{faults_of, records_of}
 use Rattle.pdw_load.proofs.FaultLemmas.{fault-of-next, faults-after, rows-after}
 use Rattle.pdw_load.proofs.FitLemmas.{records-fit}
