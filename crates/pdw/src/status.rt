@@ -1,0 +1,16 @@
+/// How a run ended.
+#[derive(Clone, Copy, Debug, PartialEq, Eq)]
+pub enum Status {
+    /// Every statement of the script was executed and its text written.
+    Done,
+    /// The script or a statement was refused, and the line that says why was written.
+    Refused,
+    /// The words of the command line have no form, or a number is out of range.
+    BadWords,
+    /// The script or a file that a statement wants could not be read.
+    ReadFault,
+    /// A text could not be written.
+    WriteFault,
+    /// Memory was wanted.
+    Memory,
+}
