@@ -1,7 +1,7 @@
-use Rattle.std.proofs.Common.{◌≡◌, ◌+◌, ◌++◌, drop, length}
+use Rattle.std.proofs.Common.{◌≡◌, ◌+◌, ◌++◌, drop}
 use Rattle.csv.specs.Records.{fields_of}
 use Rattle.pdw_load.specs.Records.{faults_along, row_of}
-use Rattle.pdw_load.proofs.line.read_record.Given as goal
+use Rattle.pdw_load.proofs.records.read_record.Given as goal
 
 -- the values so far and those of the fields that are left are the row, and no field so far has a fault
 abbrev pub invariant-loop-at : goal.invariant-loop-at

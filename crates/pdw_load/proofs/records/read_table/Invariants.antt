@@ -1,10 +1,10 @@
-use Rattle.std.proofs.Common.{Bor, ◌≡◌, ◌+◌, ◌++◌, ℕ, List, Some, false, vec_len}
+use Rattle.std.proofs.Common.{◌≡◌, ◌+◌, ◌++◌, ℕ, List, Some, false, vec_len}
 use Rattle.csv.specs.Machine.{ends_at_end}
 use Rattle.csv.specs.Reading.{Ready, default_config, source_of}
 use Rattle.csv.specs.declared.reader.Trim.TheVariants as trim
 use Rattle.pdw_load.specs.Records.{faults_from, faults_of, records_of, rows_of}
 use Rattle.pdw_load.proofs.ReadLemmas.{records_left, size_left}
-use Rattle.pdw_load.proofs.file.read_table.Given as goal
+use Rattle.pdw_load.proofs.records.read_table.Given as goal
 
 -- the rows so far and those of the records that are left are all rows, and no record so far has a fault
 abbrev pub invariant-loop-rows : goal.invariant-loop-rows
