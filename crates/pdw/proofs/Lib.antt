@@ -4,3 +4,4 @@ pub mod TableLemmas
 pub mod CreateLemmas
 pub mod LoadLemmas
 pub mod ScriptLemmas
+pub mod WordLemmas

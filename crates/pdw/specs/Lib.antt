@@ -1,3 +1,5 @@
 pub mod Script
 pub mod Reading
 pub mod Fault
+pub mod Words
+pub mod Text

@@ -45,7 +45,7 @@ column_text column = column.name ++ (kind_text column.kind ++ null_text column.n
 abbrev pub create_text : Table → List ℕ → List ℕ
 create_text table hash =
     codes "CREATE TABLE " ++ (table.name ++ (codes " (" ++ (join_by column_text (codes ", ") table.columns
-        ++ (codes ") WITH (DISTRIBUTION = HASH(" ++ (hash ++ codes "));\n")))))
+    ++ (codes ") WITH (DISTRIBUTION = HASH(" ++ (hash ++ codes "));\n")))))
 
 -- its second line
 abbrev pub load_text : List ℕ → List ℕ → List ℕ

@@ -3,5 +3,7 @@
 
 mod script;
 mod statement;
+mod text;
+mod words;
 
 fn main() {}

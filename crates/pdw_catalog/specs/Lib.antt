@@ -1,3 +1,4 @@
 pub mod Table
 pub mod Catalog
 pub mod Appliance
+pub mod NodeBags

@@ -1,10 +1,14 @@
 //! Tables, and the appliance that keeps their rows at its nodes.
 #![tactic(auto)]
 
-
+mod appliance;
 mod catalog;
+mod node_bags;
 mod table;
 
-
+pub use appliance::Appliance;
 pub use catalog::Catalog;
-pub use table::{Column, Placing, Table};
+pub use table::{
+    Column, MOST_COLUMNS, MOST_HASH_ROWS, MOST_REPLICATED_ROWS, MOST_TABLES, MOST_TEXT_BYTES,
+    Placing, Table,
+};

@@ -1,5 +1,8 @@
-use pdw_base::{Kind, Str};
+ghost use Rattle.std.specs.Prelude.{◌≡◌, IfOk};
+
+use pdw_base::{Kind, NoMemory, Str};
 use sqlite_items::Items;
+use std::alloc::Global;
 
 /// The greatest number of tables.
 pub const MOST_TABLES: usize = 64;
@@ -39,4 +42,48 @@ pub struct Table {
     pub name: Str,
     pub columns: Items<Column>,
     pub placing: Placing,
+}
+
+impl Column {
+    /// An equal column.
+    pub fn try_copy(&self, alloc: Global) -> Result<Column, NoMemory>
+        ensures { IfOk result (λ copy. copy ≡ self.now) }
+    {
+        Ok(Column {
+            name: self.name.try_copy(alloc)?,
+            kind: self.kind,
+            nullable: self.nullable,
+        })
+    }
+}
+
+impl Placing {
+    ghost use Rattle.pdw_catalog.specs.Table.{most_rows};
+
+    /// The most rows that a table of this placing may have.
+    pub fn most_rows(self) -> usize
+        ensures { result ≡ most_rows self }
+    {
+        match self {
+            Placing::Hash(_) => MOST_HASH_ROWS,
+            Placing::Replicate => MOST_REPLICATED_ROWS,
+        }
+    }
+}
+
+impl Table {
+    /// An equal table.
+    pub fn try_copy(&self, alloc: Global) -> Result<Table, NoMemory>
+        ensures { IfOk result (λ copy. copy ≡ self.now) }
+    {
+        let mut columns = Items::new(alloc);
+        for column in self.columns.as_slice() {
+            columns.push(column.try_copy(alloc)?)?;
+        }
+        Ok(Table {
+            name: self.name.try_copy(alloc)?,
+            columns,
+            placing: self.placing,
+        })
+    }
 }

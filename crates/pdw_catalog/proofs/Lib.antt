@@ -1,0 +1,5 @@
+pub mod NodeBagsLemmas
+pub mod StoresLemmas
+pub mod TablesLemmas
+pub mod ApplianceLemmas
+pub mod CreatedLemmas

@@ -1,0 +1,9 @@
+pub mod Faults
+pub mod Files
+pub mod Sink
+pub mod Whole
+pub mod Entries
+pub mod Page
+pub mod Calls
+pub mod MemFiles
+pub mod MemSink
