@@ -81,13 +81,13 @@ pub begun_more : (bytes : List ℕ) (taken : List Column) (left : List ℕ) (col
 begun_more bytes taken left column rest next b f comma = record {
   written = written_append taken (column ∷ []) b.written (f.written, tt);
   spelled = λ d ds behind e.
-    let text : left ≡ columns_text (column ∷ d ∷ ds) ++ behind =
+      let text : left ≡ columns_text (column ∷ d ∷ ds) ++ behind =
       f.text ∙ ap (λ t. column_text column ++ t) (comma ∙ ap (λ t. codes ", " ++ t) e) ∙ sym (first_apart column (d ∷ ds) behind) in
-    rw append_assoc (b.spelled column (d ∷ ds) behind text);
+      rw append_assoc (b.spelled column (d ∷ ds) behind text);
   only = λ columns behind are ends e.
-    let r = b.only columns behind are ends e in
-    let same = matched bytes taken left column rest f columns behind are ends r in
-    next_remains taken columns column next behind r.others ends (r.whole ∙ ap (λ (d : Column). taken ++ d ∷ r.others) (sym same.0)) (sym comma ∙ same.1);
+      let r = b.only columns behind are ends e in
+      let same = matched bytes taken left column rest f columns behind are ends r in
+      next_remains taken columns column next behind r.others ends (r.whole ∙ ap (λ (d : Column). taken ++ d ∷ r.others) (sym same.0)) (sym comma ∙ same.1);
 }
 
 -- no comma follows: the columns end here

@@ -64,5 +64,5 @@ no_table script named behind columns closing hash end read listed hashed none ta
 pub create_spelled : (script named behind : List ℕ) (columns : List Column) (closing hash rest : List ℕ) (table : Table) → script ≡ codes "CREATE TABLE " ++ (named ++ (codes " (" ++ behind)) → behind ≡ columns_text columns ++ closing → closing ≡ codes ") WITH (DISTRIBUTION = HASH(" ++ (hash ++ (codes "));\n" ++ rest)) → table.name ≡ named → table.columns ≡ columns → script ≡ create_text table hash ++ rest
 create_spelled script named behind columns closing hash rest table first second third name_is columns_are =
     let whole : script ≡ codes "CREATE TABLE " ++ (named ++ (codes " (" ++ (columns_text columns ++ (codes ") WITH (DISTRIBUTION = HASH(" ++ (hash ++ (codes "));\n" ++ rest)))))) =
-      first ∙ ap (λ t. codes "CREATE TABLE " ++ (named ++ (codes " (" ++ t))) (second ∙ ap (λ t. columns_text columns ++ t) third) in
+    first ∙ ap (λ t. codes "CREATE TABLE " ++ (named ++ (codes " (" ++ t))) (second ∙ ap (λ t. columns_text columns ++ t) third) in
     rw (create_apart table hash rest, name_is, columns_are) whole

@@ -41,9 +41,9 @@ front_only p bytes front back n counted front_is back_is named rest all ends e =
 run_all : (p : ℕ → Bool) (bytes : List ℕ) → list_all p (take (prefix_len p bytes) bytes) ≡ true
 run_all p bytes =
     list_all-from_AllPass p (take (prefix_len p bytes) bytes) (λ k d lt.
-      let long = length-prefix_len p bytes in
-      let below : k < prefix_len p bytes = omega arith in
-      rw (get_or-take (prefix_len p bytes) bytes k d below) (prefix_len_passes p bytes k d below))
+    let long = length-prefix_len p bytes in
+    let below : k < prefix_len p bytes = omega arith in
+    rw (get_or-take (prefix_len p bytes) bytes k d below) (prefix_len_passes p bytes k d below))
 
 -- the bytes up to the first that does not pass all do
 pub front_all : (p : ℕ → Bool) (bytes front : List ℕ) (n : ℕ) → n ≡ prefix_len p bytes → front ≡ take n bytes → list_all p front ≡ true

@@ -61,7 +61,7 @@ fault_after_load : (script : List ℕ) (table : Table) (behind file behind_load 
 fault_after_load script table behind file behind_load place left made loaded fault e =
     let long = left_over behind (load_text table.name file) behind_load loaded.text in
     fault_after_create script table behind (length (load_text table.name file) + place) left made
-      (inr (file, behind_load, place, loaded.named, loaded.text, fault, refl)) (omega arith)
+    (inr (file, behind_load, place, loaded.named, loaded.text, fault, refl)) (omega arith)
 
 pub fault_select : (script : List ℕ) (table : Table) (behind file behind_load : List ℕ) → Made script table behind → Loaded behind table.name file behind_load → NoSelect table.name behind_load → FaultAt script (length script - length behind_load)
 fault_select script table behind file behind_load made loaded none =
@@ -71,7 +71,7 @@ pub fault_more : (script : List ℕ) (table : Table) (behind file behind_load re
 fault_more script table behind file behind_load rest made loaded text more =
     let long = left_over behind_load (select_text table.name) rest text in
     fault_after_load script table behind file behind_load (length (select_text table.name)) (length rest) made loaded
-      (inr (rest, text, more, refl)) (omega arith)
+    (inr (rest, text, more, refl)) (omega arith)
 
 pub more_left : (rest : List ℕ) → false ≡ (length rest == 0) → rest ≢ []
 more_left rest e nil = false≢true (e ∙ ap (λ (l : List ℕ). length l == 0) nil)

@@ -68,8 +68,8 @@ place_within (c ∷ cs) name place found = (position-Some (λ (d : Column). byte
 pub place_some : (columns : List Column) (name : List ℕ) (place : ℕ) → position (λ (column : Column). bytes_eq column.name name) columns ≡ Some place → (place < length columns) × IsHashColumn (Hash place) columns name
 place_some columns name place found =
     elim (slice_get_cases columns place).1 [
-      inl h ↦ (h.1, (h.0, h.2, named_at columns name place h.0 found h.3))
-    | inr h ↦ (let within = place_within columns name place found in absurd (omega arith))
+      | inl h ↦ (h.1, (h.0, h.2, named_at columns name place h.0 found h.3))
+      | inr h ↦ (let within = place_within columns name place found in absurd (omega arith))
     ]
 
 placed_nowhere : (placing : Placing) (columns : List Column) (hash : List ℕ) → IsHashColumn placing columns hash → position (λ (column : Column). bytes_eq column.name hash) columns ≡ None → ⊥

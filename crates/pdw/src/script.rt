@@ -4,8 +4,10 @@ ghost use Rattle.pdw.specs.Fault.{IsFault};
 
 mod columns;
 mod lines;
-mod tables;
 mod names;
+mod tables;
+#[cfg(test)]
+mod tests;
 
 use self::lines::{after_three, create_line, load_line};
 use pdw_base::{NoMemory, Str};

@@ -4,8 +4,8 @@ ghost use Rattle.pdw.specs.Script.{CreatesTable, IsFileName, NoCreate, NoLoad, c
 ghost use Rattle.pdw.specs.Reading.{is_file_byte};
 
 use super::columns::columns;
-use super::tables::table;
 use super::names::{after, name_between};
+use super::tables::table;
 use pdw_base::{NoMemory, Str};
 use pdw_catalog::Table;
 use std::alloc::Global;
@@ -24,7 +24,8 @@ pub fn create_line(alloc: Global, script: &[u8]) -> Result<Option<(Table, &[u8])
     let Some((columns, behind_columns)) = columns(alloc, behind_name)? else {
         return Ok(None);
     };
-    let Some((hash, rest)) = name_between(behind_columns, b") WITH (DISTRIBUTION = HASH(", b"));\n") else {
+    let Some((hash, rest)) = name_between(behind_columns, b") WITH (DISTRIBUTION = HASH(", b"));\n")
+    else {
         return Ok(None);
     };
     match table(alloc, named, columns, hash)? {
@@ -34,7 +35,12 @@ pub fn create_line(alloc: Global, script: &[u8]) -> Result<Option<(Table, &[u8])
 }
 
 /// What follows three texts in a row, or None where the bytes do not begin with them.
-pub fn after_three<'a>(bytes: &'a [u8], first: &[u8], second: &[u8], third: &[u8]) -> Option<&'a [u8]>
+pub fn after_three<'a>(
+    bytes: &'a [u8],
+    first: &[u8],
+    second: &[u8],
+    third: &[u8],
+) -> Option<&'a [u8]>
     ensures spelled { IfSome result (λ rest. bytes.now ≡ first.now ++ (second.now ++ (third.now ++ rest.now))) }
     ensures only { (rest : List ℕ) → bytes.now ≡ first.now ++ (second.now ++ (third.now ++ rest)) → MatchOption result ⊥ (λ found. found.now ≡ rest) }
 {
@@ -51,7 +57,10 @@ fn can_name_file(byte: u8) -> bool
 fn file_len(bytes: &[u8]) -> usize
     ensures { result ≡ prefix_len is_file_byte bytes.now }
 {
-    bytes.iter().take_while(|byte| can_name_file(**byte)).count()
+    bytes
+        .iter()
+        .take_while(|byte| can_name_file(**byte))
+        .count()
 }
 
 /// The bytes of a file name up to the end of its line and what follows that line.
@@ -67,7 +76,11 @@ fn file_bytes(bytes: &[u8]) -> Option<(&[u8], &[u8])>
 }
 
 /// The file of the line that loads it into the named table and what follows that line, or None where the bytes begin with no such line.
-pub fn load_line<'a>(alloc: Global, script: &'a [u8], named: &[u8]) -> Result<Option<(Str, &'a [u8])>, NoMemory>
+pub fn load_line<'a>(
+    alloc: Global,
+    script: &'a [u8],
+    named: &[u8],
+) -> Result<Option<(Str, &'a [u8])>, NoMemory>
     ensures spelled { IfOk result (λ found. IfSome found (λ line. IsFileName line.0 × (script.now ≡ load_text named.now line.0 ++ line.1.now))) }
     ensures only { IfOk result (λ found. IfNone found (NoLoad named.now script.now)) }
 {

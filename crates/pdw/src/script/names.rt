@@ -6,11 +6,51 @@ ghost use Rattle.pdw.specs.Reading.{ends_name};
 
 /// The words that are no names.
 const KEYWORDS: [&str; 45] = [
-    "all", "and", "as", "asc", "between", "by", "count", "create", "cross", "desc", "distinct",
-    "drop", "except", "exists", "false", "from", "full", "group", "having", "in", "inner",
-    "intersect", "is", "join", "left", "like", "max", "min", "not", "null", "on", "or", "order",
-    "outer", "right", "select", "set", "sum", "table", "true", "union", "unknown", "update",
-    "where", "with",
+    "all",
+    "and",
+    "as",
+    "asc",
+    "between",
+    "by",
+    "count",
+    "create",
+    "cross",
+    "desc",
+    "distinct",
+    "drop",
+    "except",
+    "exists",
+    "false",
+    "from",
+    "full",
+    "group",
+    "having",
+    "in",
+    "inner",
+    "intersect",
+    "is",
+    "join",
+    "left",
+    "like",
+    "max",
+    "min",
+    "not",
+    "null",
+    "on",
+    "or",
+    "order",
+    "outer",
+    "right",
+    "select",
+    "set",
+    "sum",
+    "table",
+    "true",
+    "union",
+    "unknown",
+    "update",
+    "where",
+    "with",
 ];
 
 /// What follows a text, or None where the bytes do not begin with it.
@@ -79,7 +119,11 @@ pub fn name(bytes: &[u8]) -> Option<(&[u8], &[u8])>
 }
 
 /// The name between two texts and what follows them, or None where the bytes do not begin so.
-pub fn name_between<'a>(bytes: &'a [u8], before: &[u8], behind: &[u8]) -> Option<(&'a [u8], &'a [u8])>
+pub fn name_between<'a>(
+    bytes: &'a [u8],
+    before: &[u8],
+    behind: &[u8],
+) -> Option<(&'a [u8], &'a [u8])>
     requires { (rest : List ℕ) → ends_name (behind.now ++ rest) ≡ true }
     ensures spelled { IfSome result (λ found. (name_bytes found.0.now ≡ true) × (bytes.now ≡ before.now ++ (found.0.now ++ (behind.now ++ found.1.now)))) }
     ensures only { (named rest : List ℕ) → name_bytes named ≡ true → bytes.now ≡ before.now ++ (named ++ (behind.now ++ rest)) → MatchOption result ⊥ (λ found. (found.0.now ≡ named) × (found.1.now ≡ rest)) }

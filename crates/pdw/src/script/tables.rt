@@ -38,7 +38,12 @@ fn place_of(columns: &[Column], name: &[u8]) -> Option<usize>
 }
 
 /// The table of this name and these columns that is distributed on the named column, or None where no such table can be.
-pub fn table(alloc: Global, named: &[u8], columns: Items<Column>, hash: &[u8]) -> Result<Option<Table>, NoMemory>
+pub fn table(
+    alloc: Global,
+    named: &[u8],
+    columns: Items<Column>,
+    hash: &[u8],
+) -> Result<Option<Table>, NoMemory>
     requires name { name_bytes named.now ≡ true }
     requires columns { AreColumns columns }
     ensures { IfOk result (λ found. MatchOption found ((table : OneTable) → CreatesTable table hash.now → table.columns ≡ columns → ⊥) (λ table. CreatesTable table hash.now × (table.name ≡ named.now) × (table.columns ≡ columns))) }

@@ -14,8 +14,8 @@ returns-then-is_empty-clause-only c file rest named e =
     let same = file_only _ _ _ _ c.file_len.ensures c.split_at.ensures.front c.split_at.ensures.back file rest named e in
     let long : length c.split_at.result.0.now ≡ length file = ap length same.0 in
     elim c.then-is_empty.either [
-      inl empty ↦ (let none = none_left _ _ c.is_empty.ensures empty in omega (arith, named.some))
-    | inr more ↦ omega (arith, named.most)
+      | inl empty ↦ (let none = none_left _ _ c.is_empty.ensures empty in omega (arith, named.some))
+      | inr more ↦ omega (arith, named.most)
     ]
 
 pub returns-in_err-after-clause-only : goal.returns-in_err-after-clause-only
@@ -24,11 +24,12 @@ returns-in_err-after-clause-only c file rest named e =
     rw c.from_residual.ensures (c.in_err-after.ensures.only rest same.1)
 
 pub returns-clause-spelled : goal.returns-clause-spelled
-returns-clause-spelled c =
-    (some_left _ c.if-is_empty.ensures,
-     c.if-file-gt-MOST_FILE_BYTES.false,
-     front_all is_file_byte _ _ _ c.file_len.ensures c.split_at.ensures.front,
-     c.split_at.ensures.by_index.0 ∙ ap (λ rest. c.split_at.result.0.now ++ rest) c.in_ok-after.ensures.spelled)
+returns-clause-spelled c = (
+  some_left _ c.if-is_empty.ensures,
+  c.if-file-gt-MOST_FILE_BYTES.false,
+  front_all is_file_byte _ _ _ c.file_len.ensures c.split_at.ensures.front,
+  c.split_at.ensures.by_index.0 ∙ ap (λ rest. c.split_at.result.0.now ++ rest) c.in_ok-after.ensures.spelled,
+)
 
 pub returns-clause-only : goal.returns-clause-only
 returns-clause-only c file rest named e =

@@ -8,15 +8,18 @@ returns-in_default c table creates same =
 
 pub returns : goal.returns
 returns c =
-    let place = place_some c.args.columns c.args.hash.now c.in-Some.place (rw (← c.as_slice-2.ensures) (sym c.in-Some.ensures)) in
-    (record {
-      name = rw c.in_ok-name.ensures c.requires.name;
-      columns = c.requires.columns.written;
-      shape = record {
-        some = c.requires.columns.some;
-        most = c.requires.columns.most;
-        different = rw (← c.as_slice.ensures) (c.are_different.ensures.0 c.if-not-are_different.false);
-        placed = place.0;
-      };
-      hashed = place.1;
-    }, c.in_ok-name.ensures, refl)
+    let place = place_some c.args.columns c.args.hash.now c.in-Some.place (rw (← c.as_slice-2.ensures) (sym c.in-Some.ensures)) in (
+      record {
+        name = rw c.in_ok-name.ensures c.requires.name;
+        columns = c.requires.columns.written;
+        shape = record {
+          some = c.requires.columns.some;
+          most = c.requires.columns.most;
+          different = rw (← c.as_slice.ensures) (c.are_different.ensures.0 c.if-not-are_different.false);
+          placed = place.0;
+        };
+        hashed = place.1;
+      },
+      c.in_ok-name.ensures,
+      refl,
+    )
