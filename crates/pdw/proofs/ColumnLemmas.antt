@@ -1,10 +1,8 @@
 -- A list of columns, read from the front: what is read so far is the front of the only list that the bytes can begin with.
-use Rattle.std.proofs.Common.{◌≡◌, ◌≢◌, ℕ, ◌+◌, ◌<◌, ◌≤◌, Bool, true, false, List, [], ◌∷◌, ◌++◌, length, codes, Option, Some, None, IfSome, MatchOption, Bor, refl, ap, sym, ◌∙◌, subst, arith, append_assoc, length-append}
-use Rattle.std.specs.List.{AllByRecursion, flat_map, join_by}
-use Rattle.std.proofs.lemmas.Bool.{false≢true}
+use Rattle.std.proofs.Common.{◌≡◌, ◌≢◌, ℕ, true, List, [], ◌∷◌, ◌++◌, codes, Option, Some, IfSome, MatchOption, Bor, refl, ap, sym, ◌∙◌, subst, arith, append_assoc}
+use Rattle.std.specs.List.{AllByRecursion, flat_map}
 use Rattle.std.proofs.lemmas.List.{append_cancel_left}
 use Rattle.pdw_catalog.specs.declared.table.Column.{Column}
-use Rattle.pdw_catalog.specs.declared.table.TheConstants.{MOST_COLUMNS}
 use Rattle.pdw.specs.Script.{column_text, IsWritten}
 use Rattle.pdw.specs.Reading.{ends_column, EndsColumns, AreColumns, columns_text}
 

@@ -1,5 +1,5 @@
 -- The three lines together, and the places of their faults.
-use Rattle.std.proofs.Common.{◌≡◌, ◌≢◌, ℕ, ◌+◌, ◌-◌, ◌≤◌, ◌⊎◌, inl, inr, List, [], ◌∷◌, ◌++◌, length, codes, Option, Some, IfSome, Bor, refl, ap, sym, ◌∙◌, subst, arith, append_assoc, length-append, append-nil, ◌==◌, false, true}
+use Rattle.std.proofs.Common.{◌≡◌, ◌≢◌, ℕ, ◌+◌, ◌-◌, inl, inr, List, [], ◌∷◌, ◌++◌, length, codes, Option, Some, IfSome, Bor, refl, ap, sym, ◌∙◌, arith, append_assoc, length-append, append-nil, ◌==◌, false, true}
 use Rattle.std.proofs.lemmas.Bool.{false≢true}
 use Rattle.std.proofs.lemmas.Bool.Decides.{Decides-eqb}
 use Rattle.pdw_catalog.specs.declared.table.Table.{Table}

@@ -1,5 +1,5 @@
 -- Columns of different names, and the place of one of them.
-use Rattle.std.proofs.Common.{◌≡◌, ◌↔◌, ℕ, zero, suc, ◌<◌, ◌≤◌, Bool, true, false, cond, not, IsTrue, ◌⊎◌, inl, inr, nat_lt, List, [], ◌∷◌, length, get_or, Option, Some, None, position, slice_get, AllPairs, All, refl, sym, ◌∙◌, arith}
+use Rattle.std.proofs.Common.{◌≡◌, ◌↔◌, ℕ, zero, suc, ◌<◌, ◌≤◌, Bool, true, false, cond, not, IsTrue, inl, inr, nat_lt, List, [], ◌∷◌, length, get_or, Some, None, position, slice_get, AllPairs, sym, ◌∙◌, arith}
 use Rattle.std.specs.List.{list_any}
 use Rattle.std.specs.Str.{bytes_eq}
 use Rattle.std.proofs.lemmas.Bool.{false≢true, not_from_true, or_parts}

@@ -6,6 +6,8 @@ mod columns;
 mod lines;
 mod names;
 mod tables;
+#[cfg(test)]
+mod tests;
 
 use self::lines::{after_three, create_line, load_line};
 use pdw_base::{NoMemory, Str};

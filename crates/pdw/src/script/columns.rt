@@ -7,12 +7,9 @@ ghost use Rattle.pdw.specs.Reading.{ends_column, EndsColumns, AreColumns, column
 
 use super::names::{after, name};
 use pdw_base::{Kind, NoMemory, Str};
-use pdw_catalog::Column;
+use pdw_catalog::{Column, MOST_COLUMNS};
 use sqlite_items::Items;
 use std::alloc::Global;
-
-/// The greatest number of columns of a table.
-const MOST_COLUMNS: usize = 32;
 
 /// The kind of a column and what follows it.
 fn kind(bytes: &[u8]) -> Option<(Kind, &[u8])>

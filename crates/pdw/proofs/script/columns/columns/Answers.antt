@@ -1,6 +1,6 @@
-use Rattle.std.proofs.Common.{◌≡◌, ◌∙◌, ap, length, length-append, arith}
+use Rattle.std.proofs.Common.{◌∙◌, ap, length, length-append, arith}
 use Rattle.pdw_catalog.specs.declared.table.Column.{Column}
-use Rattle.pdw.proofs.ColumnLemmas.{First, Begun, first_from, begun_more, begun_only, begun_stops}
+use Rattle.pdw.proofs.ColumnLemmas.{first_from, begun_more, begun_only, begun_stops}
 use Rattle.pdw.proofs.script.columns.columns.Goals as goal
 
 pub returns-in_default-clause-only : goal.returns-in_default-clause-only

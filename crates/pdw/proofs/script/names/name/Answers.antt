@@ -1,7 +1,7 @@
 use Rattle.std.proofs.Common.{sym, ◌∙◌, ap}
 use Rattle.std.proofs.lemmas.Bool.{false≢true}
 use Rattle.std.proofs.lemmas.List.Sums.{prefix_len-le-length}
-use Rattle.std.proofs.Common.{◌≤◌, length, subst, ℕ, ◌≡◌, true, false}
+use Rattle.std.proofs.Common.{◌≡◌, false}
 use Rattle.pdw.specs.Script.{is_name_byte, is_name}
 use Rattle.pdw.proofs.NameLemmas.{run_only}
 use Rattle.pdw.proofs.script.names.name.Goals as goal
