@@ -1,1 +1,10 @@
 pub mod WordLemmas
+pub mod TextLemmas
+pub mod PlainLemmas
+pub mod NameLemmas
+pub mod ColumnLemmas
+pub mod TableLemmas
+pub mod CreateLemmas
+pub mod LoadLemmas
+pub mod ScriptLemmas
+pub mod RunLemmas

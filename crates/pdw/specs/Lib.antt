@@ -1,3 +1,12 @@
 pub mod Script
 pub mod Words
 pub mod Text
+pub mod Plain
+pub mod Refusal
+pub mod RefusalLine
+pub mod Output
+pub mod Perform
+pub mod Reading
+pub mod Fault
+pub mod Run
+pub mod Status

@@ -1,11 +1,13 @@
 //! The texts of rows.
 
-ghost use Rattle.std.specs.Prelude.{◌≡◌, ◌++◌, List, length, codes, OnOk};
+ghost use Rattle.std.specs.Prelude.{◌≡◌, ◌++◌, List, length, map, codes, IfOk, OnOk};
 ghost use Rattle.std.specs.List.{flat_map};
-ghost use Rattle.pdw.specs.Text.{count_text, header_text, quoted, row_text, value_text};
+ghost use Rattle.pdw.specs.Text.{count_text, done_text, header_text, loaded_text, quoted, row_text, value_text};
 
 use itoa::Buffer;
-use pdw_base::{NoMemory, Row, Str, Value};
+use pdw_base::{NoMemory, Row, Value};
+use pdw_catalog::Column;
+use std::alloc::Global;
 
 // Puts a text in double quotes, with each of its own doubled.
 fn push_quoted(text: &mut Vec<u8>, bytes: &[u8]) -> Result<(), NoMemory>
@@ -63,5 +65,55 @@ pub fn push_rows(text: &mut Vec<u8>, rows: &[Row]) -> Result<(), NoMemory>
     for row in rows {
         push_row(text, row)?;
     }
+    Ok(())
+}
+
+/// What a statement prints that only changes the tables.
+pub fn done(alloc: Global) -> Result<Vec<u8>, NoMemory>
+    ensures { IfOk result (λ text. text.items ≡ done_text) }
+{
+    Ok(Vec::from_slice(alloc, b"OK\n")?)
+}
+
+/// What LOAD prints for so many records.
+pub fn loaded(alloc: Global, records: usize) -> Result<Vec<u8>, NoMemory>
+    ensures { IfOk result (λ text. text.items ≡ loaded_text records) }
+{
+    let mut text = Vec::from_slice(alloc, b"LOADED ")?;
+    text.extend_from_slice(Buffer::new().format(records).as_bytes())?;
+    text.push(b'\n')?;
+    Ok(text)
+}
+
+// Puts a comma before each name.
+fn push_names(text: &mut Vec<u8>, columns: &[Column]) -> Result<(), NoMemory>
+    ensures { OnOk result (text.new.items ≡ text.old.items ++ flat_map (λ name. codes "," ++ name) (map (λ column. column.name) columns.now)) }
+{
+    for column in columns {
+        text.push(b',')?;
+        text.extend_from_slice(column.name.bytes())?;
+    }
+    Ok(())
+}
+
+/// Adds the line of the output names.
+pub fn push_header(text: &mut Vec<u8>, columns: &[Column]) -> Result<(), NoMemory>
+    ensures { OnOk result (text.new.items ≡ text.old.items ++ header_text (map (λ column. column.name) columns.now)) }
+{
+    if let Some((first, rest)) = columns.split_first() {
+        text.extend_from_slice(first.name.bytes())?;
+        push_names(text, rest)?;
+    }
+    text.push(b'\n')?;
+    Ok(())
+}
+
+/// Adds the line of the number of rows.
+pub fn push_count(text: &mut Vec<u8>, rows: usize) -> Result<(), NoMemory>
+    ensures { OnOk result (text.new.items ≡ text.old.items ++ count_text rows) }
+{
+    text.extend_from_slice(b"ROWS ")?;
+    text.extend_from_slice(Buffer::new().format(rows).as_bytes())?;
+    text.push(b'\n')?;
     Ok(())
 }

@@ -2,3 +2,4 @@ pub mod NodeBagsLemmas
 pub mod StoresLemmas
 pub mod TablesLemmas
 pub mod ApplianceLemmas
+pub mod CreatedLemmas

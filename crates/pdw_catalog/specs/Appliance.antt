@@ -106,6 +106,13 @@ creating contents table = record {
   bags = contents.bags ++ replicate contents.nodes [] ∷ [];
 }
 
+-- the table is there, without rows, and no other table changes
+pub record GainsTable (old new : Contents) (table : Table) : Type 0 where
+  pub nodes : new.nodes ≡ old.nodes
+  pub tables : new.tables ≡ old.tables ++ (table.name, table) ∷ []
+  pub empty : whole_of table.name new ≡ []
+  pub others : (other : List ℕ) → bytes_eq other table.name ≡ false → whole_of other new ≡ whole_of other old
+
 -- rows may be appended: the table is there, they fit its columns, and its limit holds afterwards
 pub record CanAppend (contents : Contents) (name : List ℕ) (rows : List Row) : Type 0 where
   pub there : HasTable contents name

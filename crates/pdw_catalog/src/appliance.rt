@@ -2,7 +2,7 @@ ghost use Rattle.std.specs.Prelude.{◌≡◌, ◌+◌, ◌≤◌, ◌<◌, ◌+
 ghost use Rattle.std.specs.List.{flat_map};
 ghost use Rattle.pdw_catalog.specs.Table.{FitsTable, most_rows};
 ghost use Rattle.pdw_catalog.specs.Catalog.{table_named};
-ghost use Rattle.pdw_catalog.specs.Appliance.{CanCreate, CanAppend, HasTable, IsSound, Stores, bag_at, bags_of, creating, dropping, empty_of, GainsRows, whole_of};
+ghost use Rattle.pdw_catalog.specs.Appliance.{CanCreate, CanAppend, HasTable, IsSound, IsTable, Stores, bag_at, bags_of, creating, dropping, empty_of, GainsRows, GainsTable, whole_of};
 
 use crate::node_bags::NodeBags;
 use crate::{Catalog, Table};
@@ -55,10 +55,22 @@ impl Appliance {
         &self.catalog
     }
 
+    /// The table of a name.
+    pub fn table(&self, name: &Str) -> &Table
+        requires { HasTable self.now name.now }
+        ensures named { table_named name.now self.now.tables ≡ Some result.now }
+        ensures shape { IsTable result.now }
+        ensures limit { length (whole_of name.now self.now) ≤ most_rows result.now.placing }
+    {
+        let (table, _) = self.stored(name);
+        table
+    }
+
     /// Makes an empty table. Out of memory leaves the appliance as it was.
     pub fn create_table(&mut self, alloc: Global, t: Table) -> Result<(), NoMemory>
         requires { CanCreate self.old t }
         ensures ok { OnOk result (self.new ≡ creating self.old t) }
+        ensures gained { OnOk result (GainsTable self.old self.new t) }
         ensures err { OnErr result (self.new ≡ self.old) }
     {
         let name = t.name.try_copy(alloc)?;

@@ -1,14 +1,14 @@
 -- The first fault of a part is that of the whole, field by field and record by record.
-use Rattle.std.proofs.Common.{◌≡◌, ◌==◌, ◌<◌, ◌≤◌, ◌+◌, ◌++◌, ◌∷◌, [], ℕ, suc, Bool, true, false, List, length, get_or, drop, map, zip, flat_map, Option, Some, None, if◌then◌else◌, refl, sym, ap, ◌∙◌, inl, inr, arith, append_assoc, add-one}
+use Rattle.std.proofs.Common.{◌≡◌, ◌<◌, ◌+◌, ◌++◌, ◌∷◌, [], ℕ, List, length, get_or, drop, map, Some, refl, sym, ap, ◌∙◌, inl, inr, append_assoc, add-one}
 use Rattle.std.proofs.Math.Seq.{drop-cons}
 use Rattle.std.proofs.lemmas.Bool.{eq-eqb}
-use Rattle.std.specs.List.{enumerate_from}
 use Rattle.csv.specs.Records.{field_at}
 use Rattle.csv.proofs.RecordFacts.{field-get}
 use Rattle.pdw_base.specs.declared.value.Value.{Value}
 use Rattle.pdw_catalog.specs.Table.{Row}
 use Rattle.pdw_catalog.specs.declared.table.Column.{Column}
-use Rattle.pdw_load.specs.Field.{IsFirstFault, field_faults, value_of}
+use Rattle.pdw_load.specs.Field.{field_faults, value_of}
+use Rattle.pdw_load.specs.LoadError.{IsFirstFault}
 use Rattle.pdw_load.specs.Records.{Fields, faults_along, faults_from, record_faults, row_of}
 use Rattle.pdw_load.specs.declared.load_error.LoadError.{LoadError}
 

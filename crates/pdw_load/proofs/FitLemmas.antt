@@ -1,21 +1,20 @@
 -- The rows of records without a fault fit the table.
-use Rattle.std.proofs.Common.{◌≡◌, ◌==◌, ◌<◌, ◌≤◌, ◌+◌, ◌++◌, ◌∷◌, [], ℕ, ℤ, Bool, true, false, not, nat_lt, List, length, map, zip, flat_map, Option, Some, None, is_some, if◌then◌else◌, refl, sym, ap, ◌∙◌, arith}
+use Rattle.std.proofs.Common.{◌≡◌, ◌==◌, ◌+◌, ◌++◌, ◌∷◌, [], ℕ, ℤ, Bool, true, false, not, nat_lt, List, length, map, Option, Some, None, is_some, if◌then◌else◌, refl, arith}
 use Rattle.std.proofs.lemmas.Bool.{eqb-true, ltb-false}
-use Rattle.std.specs.List.{AllByRecursion, enumerate_from}
+use Rattle.std.specs.List.{AllByRecursion}
 use Rattle.std.specs.Str.{is_utf8}
 use Rattle.pdw_base.specs.Value.{IsOfKind}
 use Rattle.pdw_base.specs.declared.value.Kind.{Kind}
 use Rattle.pdw_base.specs.declared.value.Kind.TheVariants as kind
 use Rattle.pdw_base.specs.declared.value.Value.{Value}
-use Rattle.pdw_base.specs.declared.value.Value.TheVariants.{Null, Int, Text, Wide}
+use Rattle.pdw_base.specs.declared.value.Value.TheVariants.{Null, Text}
 use Rattle.pdw_catalog.specs.Table.{AllowsNull, FitsColumn, FitsTable, IsShortText}
 use Rattle.pdw_catalog.specs.declared.table.Column.{Column}
 use Rattle.pdw_catalog.specs.declared.table.TheConstants.{MOST_TEXT_BYTES}
-use Rattle.pdw_load.specs.Field.{field_faults, int_or_null, is_null, number_of, plain_faults, plain_value, text_faults, value_of}
-use Rattle.pdw_load.specs.Records.{Fields, faults_along, faults_from, record_faults, row_of}
+use Rattle.pdw_load.specs.Field.{field_faults, int_or_null, is_null, number_of, plain_faults, plain_value, value_of}
+use Rattle.pdw_load.specs.Records.{Fields, faults_along, faults_from, row_of}
 use Rattle.pdw_load.specs.declared.field.Place.{Place}
-use Rattle.pdw_load.specs.declared.load_error.LoadError.{LoadError}
-use Rattle.pdw_load.specs.declared.load_error.LoadError.TheVariants.{FieldCount, BadInt, LongText, NullField, NotUtf8, Memory}
+use Rattle.pdw_load.specs.declared.load_error.LoadError.TheVariants.{FieldCount, BadInt, LongText, NullField, NotUtf8}
 
 -- a value may stand in a column of this kind
 abbrev pub Fits : Kind → Bool → Value → Type 0

@@ -1,16 +1,16 @@
 -- What a field of a record says in a column of a table: its value, or its fault.
-use Rattle.std.specs.Prelude.{◌≡◌, ◌⊎◌, ◌&&◌, ◌^◌, ◌∷◌, [], not, Bool, ℕ, ℤ, pos, negsuc, nat_lt, List, length, Option, Some, None, is_some, codes, if◌then◌else◌}
+use Rattle.std.specs.Prelude.{◌&&◌, ◌^◌, ◌∷◌, [], not, Bool, ℕ, ℤ, pos, negsuc, nat_lt, List, length, Option, Some, None, is_some, codes, if◌then◌else◌}
 use Rattle.std.specs.Str.{all_ascii_digits, bytes_eq, is_utf8}
 use Rattle.std.specs.Str.Parse.{signed_digits_value, without_leading_sign}
 use Rattle.pdw_base.specs.declared.value.Kind.{Kind}
 use Rattle.pdw_base.specs.declared.value.Kind.TheVariants as kind
 use Rattle.pdw_base.specs.declared.value.Value.{Value}
-use Rattle.pdw_base.specs.declared.value.Value.TheVariants.{Null, Int, Text, Wide}
+use Rattle.pdw_base.specs.declared.value.Value.TheVariants.{Null, Int, Text}
 use Rattle.pdw_catalog.specs.declared.table.Column.{Column}
 use Rattle.pdw_catalog.specs.declared.table.TheConstants.{MOST_TEXT_BYTES}
 use Rattle.pdw_load.specs.declared.field.Place.{Place}
 use Rattle.pdw_load.specs.declared.load_error.LoadError.{LoadError}
-use Rattle.pdw_load.specs.declared.load_error.LoadError.TheVariants.{FieldCount, BadInt, LongText, NullField, NotUtf8, Memory}
+use Rattle.pdw_load.specs.declared.load_error.LoadError.TheVariants.{BadInt, LongText, NullField, NotUtf8}
 
 -- `\N` stands for NULL in every column, quoted or not
 abbrev pub is_null : List ℕ → Bool
@@ -60,7 +60,3 @@ abbrev pub field_faults : Place → Column → List ℕ → List LoadError
 field_faults at column field =
     if is_null field then (if column.nullable then [] else NullField at.rec at.field ∷ [])
     else plain_faults at column.kind field
-
--- a call failed for want of memory, or of the first of these faults
-abbrev pub IsFirstFault : LoadError → List LoadError → Type 0
-IsFirstFault e faults = (e ≡ Memory) ⊎ ((rest : List LoadError) × (faults ≡ e ∷ rest))

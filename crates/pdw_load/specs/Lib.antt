@@ -1,2 +1,3 @@
+pub mod LoadError
 pub mod Field
 pub mod Records

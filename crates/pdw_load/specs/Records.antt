@@ -1,5 +1,5 @@
 -- The records of a file, their faults, and the rows that they are.
-use Rattle.std.specs.Prelude.{◌≡◌, ◌==◌, ◌∷◌, [], ℕ, List, length, map, flat_map, zip, if◌then◌else◌}
+use Rattle.std.specs.Prelude.{◌==◌, ◌∷◌, [], ℕ, List, length, map, flat_map, zip, if◌then◌else◌}
 use Rattle.std.specs.List.{enumerate_from}
 use Rattle.csv.specs.Reading.{default_config, records, strip_bom}
 use Rattle.pdw_catalog.specs.Table.{Row}

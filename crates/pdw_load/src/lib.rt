@@ -2,9 +2,11 @@
 #![tactic(auto)]
 
 mod field;
-mod file;
 mod load_error;
-mod line;
+mod records;
 
-pub use file::read_table;
 pub use load_error::LoadError;
+pub use records::read_table;
+
+#[cfg(test)]
+mod tests;

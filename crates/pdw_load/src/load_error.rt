@@ -1,4 +1,5 @@
 use pdw_base::NoMemory;
+use pdw_catalog::MOST_TEXT_BYTES;
 use std::alloc::{AllocError, AllocFailed};
 use thiserror::Error;
 
@@ -12,7 +13,7 @@ pub enum LoadError {
     #[error("field {field} of record {rec} is not a whole number of 64 bits")]
     BadInt { rec: u64, field: u32 },
     /// The text is longer than a table allows.
-    #[error("field {field} of record {rec} has more than 1000 bytes")]
+    #[error("field {field} of record {rec} has more than {most} bytes", most = MOST_TEXT_BYTES)]
     LongText { rec: u64, field: u32 },
     /// The field is NULL in a column that allows none.
     #[error("field {field} of record {rec} is NULL in a column that is NOT NULL")]

@@ -1,13 +1,12 @@
 -- Writing on behind what was written.
-use Rattle.std.proofs.Common.{◌≡◌, ◌<◌, ◌≤◌, ◌+◌, ◌-◌, ℕ, zero, suc, List, [], ◌∷◌, ◌++◌, length, take, drop, Option, Some, None, Result, Ok, refl, sym, ◌∙◌, ap, arith, append_assoc, append-nil, length-drop}
+use Rattle.std.proofs.Common.{◌≡◌, ◌<◌, ◌≤◌, ◌+◌, ◌-◌, ℕ, zero, suc, List, [], ◌∷◌, ◌++◌, length, take, drop, Option, Some, None, Ok, sym, ◌∙◌, ap, arith, append_assoc, append-nil, length-drop}
 use Rattle.std.proofs.Math.Seq.{take-add}
 use Rattle.std.proofs.lemmas.List.{take_all}
 use Rattle.pdw_outside.specs.Faults.{Rose}
 use Rattle.pdw_outside.specs.Sink.{Adds, CountsWrite}
-use Rattle.pdw_outside.specs.declared.failed.Failed.{Failed}
 
 -- a piece behind another
-adds_both : (before middle now : Option (List ℕ)) (piece more : List ℕ) → Adds before middle piece → Adds middle now more → Adds before now (piece ++ more)
+pub adds_both : (before middle now : Option (List ℕ)) (piece more : List ℕ) → Adds before middle piece → Adds middle now more → Adds before now (piece ++ more)
 adds_both before middle None piece more first second = tt
 adds_both before None (Some now) piece more first second = absurd second
 adds_both None (Some middle) (Some now) piece more first second = absurd first

@@ -1,8 +1,8 @@
 -- Reading on behind what was taken.
-use Rattle.std.proofs.Common.{◌≡◌, ◌+◌, ◌≤◌, ℕ, List, [], ◌++◌, length, take, drop, Option, Some, None, sym, ◌∙◌, ap, arith, length-append, append_assoc, refl}
+use Rattle.std.proofs.Common.{◌≡◌, ◌+◌, ◌≤◌, ℕ, List, ◌++◌, length, take, drop, Option, Some, None, sym, ◌∙◌, ap, length-append, append_assoc}
 use Rattle.std.proofs.lemmas.List.{take-append-drop, drop-drop, length-take-le, take-append-le}
 use Rattle.pdw_outside.specs.Files.{GivesFrom}
-use Rattle.pdw_outside.specs.Whole.{IsStart, IsContent}
+use Rattle.pdw_outside.specs.Whole.{IsStart}
 
 -- what is read behind a start of the content makes a longer start
 pub start_more : (told : Option (List ℕ)) (taken buf : List ℕ) (count : ℕ) → count ≤ length buf → GivesFrom told (length taken) count buf → IsStart told taken → IsStart told (taken ++ take count buf)

@@ -1,5 +1,5 @@
 -- A file that is read whole.
-use Rattle.std.specs.Prelude.{◌≡◌, ◌<◌, ℕ, List, ◌++◌, length, drop, Option, Some, None, Result, Ok, Err}
+use Rattle.std.specs.Prelude.{◌≡◌, ◌<◌, ℕ, List, ◌++◌, length, drop, Option, Some, None, Result, Ok, Err, codes}
 use Rattle.pdw_outside.specs.declared.reading.ReadStop.{ReadStop}
 use Rattle.pdw_outside.specs.declared.reading.ReadStop.TheVariants.{Failed, TooLong, Memory}
 
@@ -23,3 +23,9 @@ SameUnlessFailed (Err Memory) before now = now ≡ before
 abbrev pub IsStart : Option (List ℕ) → List ℕ → Type 0
 IsStart None taken = Unit {0}
 IsStart (Some content) taken = taken ++ drop (length taken) content ≡ content
+
+-- why a file was not read whole, in words
+abbrev pub stop_text : ReadStop → List ℕ
+stop_text Failed = codes "the file cannot be read"
+stop_text TooLong = codes "the file is too long"
+stop_text Memory = codes "out of memory"

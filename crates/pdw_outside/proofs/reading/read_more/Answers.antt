@@ -1,4 +1,4 @@
-use Rattle.std.proofs.Common.{rules, arith, ◌≡◌, ◌≤◌, ℕ, length, take, length-take}
+use Rattle.std.proofs.Common.{rules, arith, ◌≡◌, ◌≤◌, length}
 use Rattle.pdw_outside.proofs.WholeLemmas.{start_front}
 use Rattle.pdw_outside.proofs.reading.read_more.Goals as goal
 

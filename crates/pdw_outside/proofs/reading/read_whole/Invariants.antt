@@ -1,4 +1,4 @@
-use Rattle.std.proofs.Common.{◌≡◌, ◌+◌, ◌-◌, ◌≤◌, ◌<◌, List, ℕ, length, vec_len}
+use Rattle.std.proofs.Common.{◌≡◌, ◌+◌, ◌-◌, ◌≤◌, ◌<◌, vec_len}
 use Rattle.pdw_outside.specs.Whole.{IsStart}
 use Rattle.pdw_outside.proofs.reading.read_whole.Given as goal
 

@@ -1,4 +1,4 @@
-use Rattle.std.proofs.Common.{rules, arith, ◌≡◌, ◌≤◌, ◌∙◌, ℕ, length, take, sym, length-take, length-drop}
+use Rattle.std.proofs.Common.{arith, ◌∙◌, ℕ, length-take, length-drop}
 use Rattle.pdw_outside.proofs.SinkLemmas.{adds_more}
 use Rattle.pdw_outside.proofs.writing.write_whole.Goals as goal
 

@@ -1,0 +1,43 @@
+-- What the parts of a run leave: the end that their status tells, what was written, and the counts of faults.
+use Rattle.std.specs.Prelude.{◌≡◌, ⊤, ℕ, ◌<◌, List, [], ◌∷◌, ◌++◌, length, take, Option, None, IsSome}
+use Rattle.pdw_catalog.specs.Appliance.{IsTable}
+use Rattle.pdw_catalog.specs.Catalog.{Tables, table_named}
+use Rattle.pdw_catalog.specs.declared.table.TheConstants.{MOST_TABLES}
+use Rattle.pdw_outside.specs.Faults.{Rose}
+use Rattle.pdw_outside.specs.Sink.{Adds}
+use Rattle.pdw.specs.declared.statement.Statement.{Statement}
+use Rattle.pdw.specs.declared.statement.Statement.TheVariants.{Create, Load, Select}
+use Rattle.pdw.specs.declared.status.Status.{Status}
+use Rattle.pdw.specs.declared.status.Status.TheVariants as status
+use Rattle.pdw.specs.Output.{End, EndsIn, Gives, Held, Tells}
+use Rattle.pdw.specs.Plain.{Plain}
+
+-- statements that can be executed one after the other: each makes a new table, or finds its table there
+abbrev pub CanRun : Tables → List Statement → Type 0
+CanRun tables [] = ⊤
+CanRun tables (Create table ∷ statements) =
+    (table_named table.name tables ≡ None) × IsTable table × (length tables < MOST_TABLES) × CanRun (tables ++ (table.name, table) ∷ []) statements
+CanRun tables (Load name file ∷ statements) = IsSome (table_named name tables) × CanRun tables statements
+CanRun tables (Select name ∷ statements) = IsSome (table_named name tables) × CanRun tables statements
+
+-- the line of a refusal was written, or cut where the sink failed
+abbrev pub EndsRefused : Status → Option (List ℕ) → Option (List ℕ) → ℕ → ℕ → List ℕ → Type 0
+EndsRefused status.Done old new before after line = ⊥
+EndsRefused status.Refused old new before after line = Adds old new line × (after ≡ before)
+EndsRefused status.BadWords old new before after line = ⊥
+EndsRefused status.ReadFault old new before after line = ⊥
+EndsRefused status.WriteFault old new before after line = (count : ℕ) × Adds old new (take count line) × Rose before after
+EndsRefused status.Memory old new before after line = ⊥
+
+-- this was written, and the script ends so
+abbrev pub EndsBy : Status → (List ℕ → ℕ) → (List ℕ → ℕ) → (End → List ℕ → Type 0) → Option (List ℕ) → Option (List ℕ) → Type 0
+EndsBy state before after writes old new = (end : End) × (text : List ℕ) × Tells state before after end × writes end text × Adds old new text
+
+-- statement k gave its text, which was written, or the script ends at it
+abbrev pub Steps : Held → ℕ → Plain → Statement → Plain → (List ℕ → ℕ) → (List ℕ → ℕ) → Option (List ℕ) → Option (List ℕ) → Status → Type 0
+Steps held k state statement next before after old new status.Done = (text : List ℕ) × Gives held state statement text next × Adds old new text
+Steps held k state statement next before after old new status.Refused = EndsBy status.Refused before after (EndsIn held k state statement) old new
+Steps held k state statement next before after old new status.BadWords = EndsBy status.BadWords before after (EndsIn held k state statement) old new
+Steps held k state statement next before after old new status.ReadFault = EndsBy status.ReadFault before after (EndsIn held k state statement) old new
+Steps held k state statement next before after old new status.WriteFault = EndsBy status.WriteFault before after (EndsIn held k state statement) old new
+Steps held k state statement next before after old new status.Memory = EndsBy status.Memory before after (EndsIn held k state statement) old new

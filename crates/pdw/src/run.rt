@@ -1,0 +1,122 @@
+//! The whole run: the words, the script, its statements.
+
+ghost use Rattle.std.specs.Prelude.{◌≡◌, ◌≤◌, ℕ, List, [], length, IfOk};
+ghost use Rattle.pdw_outside.specs.Sink.{Adds};
+ghost use Rattle.pdw.specs.Output.{CountsWriting, Lawful, Outputs, SameReading, ScriptWrites, Writes, statements_of};
+ghost use Rattle.pdw.specs.Plain.{start};
+ghost use Rattle.pdw.specs.Run.{CanRun, EndsBy};
+
+use crate::refusal::{MOST_SCRIPT_BYTES, long_script, syntax};
+use crate::script::{Script, ScriptError, parse};
+use crate::statement::Statement;
+use crate::status::Status;
+use crate::step::{refuse, run_statements};
+use crate::words;
+use pdw_base::{NoMemory, NodeCount, Str};
+use pdw_catalog::Appliance;
+use pdw_outside::{Files, ReadStop, Sink, read_whole};
+use std::alloc::Global;
+
+// The statements of a script, in order.
+fn statements(alloc: Global, script: Script) -> Result<Vec<Statement>, NoMemory>
+    ensures { IfOk result (λ statements. statements.items ≡ statements_of script.table script.file) }
+{
+    let Script { table, file } = script;
+    let loaded = table.name.try_copy(alloc)?;
+    let selected = table.name.try_copy(alloc)?;
+    let mut statements = Vec::new(alloc);
+    statements.push(Statement::Create(table))?;
+    statements.push(Statement::Load {
+        table: loaded,
+        file,
+    })?;
+    statements.push(Statement::Select(selected))?;
+    Ok(statements)
+}
+
+// Executes statements over an appliance without tables.
+fn run_anew<F: Files, S: Sink>(
+    alloc: Global,
+    nodes: NodeCount,
+    statements: &[Statement],
+    files: &mut F,
+    out: &mut S,
+) -> Status
+    requires { CanRun [] statements.now }
+    ensures lawful { EndsBy result (F.faults files.old) (F.faults files.new) (Writes (F.bytes files.old) 1 (start nodes) statements.now) (S.written out.old) (S.written out.new) }
+    ensures reading { SameReading result (F.faults files.old) (F.faults files.new) }
+    ensures writing { CountsWriting result (S.faults out.old) (S.faults out.new) }
+    ensures bytes { F.bytes files.new ≡ F.bytes files.old }
+{
+    match Appliance::new(alloc, nodes) {
+        Ok(mut appliance) => run_statements(alloc, &mut appliance, statements, files, out),
+        Err(_) => Status::Memory,
+    }
+}
+
+// Runs the bytes of a script.
+fn run_bytes<F: Files, S: Sink>(
+    alloc: Global,
+    nodes: NodeCount,
+    script: &[u8],
+    files: &mut F,
+    out: &mut S,
+) -> Status
+    requires { length script.now ≤ MOST_SCRIPT_BYTES }
+    ensures lawful { EndsBy result (F.faults files.old) (F.faults files.new) (ScriptWrites (F.bytes files.old) nodes script.now) (S.written out.old) (S.written out.new) }
+    ensures reading { SameReading result (F.faults files.old) (F.faults files.new) }
+    ensures writing { CountsWriting result (S.faults out.old) (S.faults out.new) }
+    ensures bytes { F.bytes files.new ≡ F.bytes files.old }
+{
+    match parse(alloc, script) {
+        Ok(read) => match statements(alloc, read) {
+            Ok(statements) => run_anew(alloc, nodes, statements.as_slice(), files, out),
+            Err(_) => Status::Memory,
+        },
+        Err(ScriptError::Syntax { at }) => match syntax(alloc, at) {
+            Ok(line) => refuse(out, line.as_str()),
+            Err(_) => Status::Memory,
+        },
+        Err(ScriptError::Memory) => Status::Memory,
+    }
+}
+
+// Reads a script whole and runs it.
+fn run_script<F: Files, S: Sink>(
+    alloc: Global,
+    nodes: NodeCount,
+    name: &Str,
+    files: &mut F,
+    out: &mut S,
+) -> Status
+    ensures lawful { EndsBy result (F.faults files.old) (F.faults files.new) (Outputs (F.bytes files.old) nodes name.now) (S.written out.old) (S.written out.new) }
+    ensures reading { SameReading result (F.faults files.old) (F.faults files.new) }
+    ensures writing { CountsWriting result (S.faults out.old) (S.faults out.new) }
+    ensures bytes { F.bytes files.new ≡ F.bytes files.old }
+{
+    match read_whole(alloc, files, name.text(), MOST_SCRIPT_BYTES) {
+        Ok(script) => run_bytes(alloc, nodes, script.as_slice(), files, out),
+        Err(ReadStop::TooLong) => match long_script(alloc) {
+            Ok(line) => refuse(out, line.as_str()),
+            Err(_) => Status::Memory,
+        },
+        Err(ReadStop::Failed) => Status::ReadFault,
+        Err(ReadStop::Memory) => Status::Memory,
+    }
+}
+
+/// Runs the script that the words name, and says how it ended.
+///
+/// The bytes written are a lawful output of the script and the files, as the status tells: whole at Done, up to
+/// the line of the first refusal at Refused, and the texts before the statement at which the run stopped otherwise.
+pub fn run<F: Files, S: Sink>(alloc: Global, words: &[Str], files: &mut F, out: &mut S) -> Status
+    ensures lawful { (text : List ℕ) × Lawful (F.bytes files.old) (F.faults files.old) (F.faults files.new) words.now result text × Adds (S.written out.old) (S.written out.new) text }
+    ensures reading { SameReading result (F.faults files.old) (F.faults files.new) }
+    ensures writing { CountsWriting result (S.faults out.old) (S.faults out.new) }
+    ensures bytes { F.bytes files.new ≡ F.bytes files.old }
+{
+    match words::parse(words) {
+        Some((nodes, script)) => run_script(alloc, nodes, script, files, out),
+        None => Status::BadWords,
+    }
+}
