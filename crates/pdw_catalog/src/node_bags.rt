@@ -29,7 +29,7 @@ impl Model for NodeBags {
     ghost view = { λ b. b.bags.items };
 }
 
-// The compute node of a row that is placed by the hash of a column.
+// The compute node of a row that is placed by the hash of a column. One that lacks the column counts as NULL.
 fn node_of_row(row: &Row, column: u32, nodes: NodeCount) -> u32
     ensures node { result ≡ node_for nodes (value_at column row.now) }
     ensures within { result < nodes }

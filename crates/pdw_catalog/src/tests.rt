@@ -143,6 +143,10 @@ fn dropping_leaves_the_other_table(rt: HostRuntime) -> Result<(), Fail> {
     assert!(rt; !appliance.catalog().is_empty());
     assert!(rt; appliance.catalog().table(&first).is_none());
     assert!(rt; appliance.catalog().table(&second).is_some());
+    let copy = appliance.table(&second).try_copy(alloc)?;
+    assert_eq!(rt; copy.columns.len(), 2);
+    assert_eq!(rt; copy.placing, Placing::Replicate);
+    assert_eq!(rt; copy.placing.most_rows(), 100_000);
     let found = numbers(alloc, appliance.rows_at(&second, 1))?;
     assert_eq!(rt; found.as_slice(), [Some(4), None].as_slice());
     Ok(())
