@@ -8,3 +8,4 @@ pub mod CreateLemmas
 pub mod LoadLemmas
 pub mod ScriptLemmas
 pub mod RunLemmas
+pub mod CompleteLemmas

@@ -172,3 +172,15 @@ CountsWriting status.BadWords before after = after ≡ before
 CountsWriting status.ReadFault before after = after ≡ before
 CountsWriting status.WriteFault before after = Rose before after
 CountsWriting status.Memory before after = after ≡ before
+
+-- ---- what a run meets
+
+-- a lawful output of the script of a name may stop at this file: it is the script, or a statement that is reached wants it
+abbrev pub MayStopAt : Held → ℕ → List ℕ → List ℕ → Type 0
+MayStopAt held nodes script file = (out : List ℕ) × Outputs held nodes script (Unread file) out
+
+-- the words ask for a run that meets no fault: no lawful output ends with a refusal, and no file at which one may stop failed
+abbrev pub MeetsNoFault : Held → (List ℕ → ℕ) → (List ℕ → ℕ) → List (List ℕ) → Type 0
+MeetsNoFault held before after words =
+    (nodes : ℕ) (script : List ℕ) → AskRun words nodes script
+    → ((out : List ℕ) → ¬ (Outputs held nodes script Refused out)) × ((file : List ℕ) → MayStopAt held nodes script file → ¬ (Rose (before file) (after file)))

@@ -1,10 +1,13 @@
 //! The whole run: the words, the script, its statements.
 
-ghost use Rattle.std.specs.Prelude.{◌≡◌, ◌≤◌, ℕ, List, [], length, IfOk};
+ghost use Rattle.std.specs.Prelude.{◌≡◌, ◌≤◌, ◌⊎◌, ℕ, List, [], length, IfOk};
+ghost use Rattle.pdw_outside.specs.Faults.{Rose};
 ghost use Rattle.pdw_outside.specs.Sink.{Adds};
-ghost use Rattle.pdw.specs.Output.{CountsWriting, Lawful, Outputs, SameReading, ScriptWrites, Writes, statements_of};
+ghost use Rattle.pdw.specs.Output.{CountsWriting, Lawful, MeetsNoFault, Outputs, SameReading, ScriptWrites, Writes, statements_of};
 ghost use Rattle.pdw.specs.Plain.{start};
 ghost use Rattle.pdw.specs.Run.{CanRun, EndsBy};
+ghost use Rattle.pdw.specs.Words.{HaveNoForm};
+ghost use Rattle.pdw.specs.declared.status.Status.TheVariants as status;
 
 use crate::refusal::{MOST_SCRIPT_BYTES, long_script, syntax};
 use crate::script::{Script, ScriptError, parse};
@@ -111,12 +114,16 @@ fn run_script<F: Files, S: Sink>(
 /// the line of the first refusal at Refused, and the texts before the statement at which the run stopped otherwise.
 pub fn run<F: Files, S: Sink>(alloc: Global, words: &[Str], files: &mut F, out: &mut S) -> Status
     ensures lawful { (text : List ℕ) × Lawful (F.bytes files.old) (F.faults files.old) (F.faults files.new) words.now result text × Adds (S.written out.old) (S.written out.new) text }
+
+    // Where nothing is at fault and no stream fails, every statement is executed, or memory is wanted.
+    ensures completes { ¬ (HaveNoForm words.now) → MeetsNoFault (F.bytes files.old) (F.faults files.old) (F.faults files.new) words.now → ¬ (Rose (S.faults out.old) (S.faults out.new)) → (result ≡ status.Done) ⊎ (result ≡ status.Memory) }
+
     ensures reading { SameReading result (F.faults files.old) (F.faults files.new) }
     ensures writing { CountsWriting result (S.faults out.old) (S.faults out.new) }
     ensures bytes { F.bytes files.new ≡ F.bytes files.old }
 {
     match words::parse(words) {
-        Some((nodes, script)) => run_script(alloc, nodes, script, files, out),
+        Some(asked) => run_script(alloc, asked.nodes, asked.script, files, out),
         None => Status::BadWords,
     }
 }

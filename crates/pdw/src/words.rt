@@ -21,9 +21,17 @@ fn node_count(word: &Str) -> Option<NodeCount>
     None
 }
 
-/// The node count and the script's name of the words `run N SCRIPT`, or None where the words have another form.
-pub fn parse(words: &[Str]) -> Option<(NodeCount, &Str)>
-    ensures { MatchOption result (HaveNoForm words.now) (λ asked. AskRun words.now asked.0 asked.1.now) }
+/// What the words `run N SCRIPT` ask for.
+#[derive(Clone, Copy)]
+pub struct RunWords<'a> {
+    pub nodes: NodeCount,
+    /// The name of the script's file.
+    pub script: &'a Str,
+}
+
+/// What the words ask for, or None where they have another form.
+pub fn parse(words: &[Str]) -> Option<RunWords<'_>>
+    ensures { MatchOption result (HaveNoForm words.now) (λ asked. AskRun words.now asked.nodes asked.script.now) }
 {
     let [word, count, script] = words else {
         return None;
@@ -31,5 +39,6 @@ pub fn parse(words: &[Str]) -> Option<(NodeCount, &Str)>
     if word.text() != "run" {
         return None;
     }
-    Some((node_count(count)?, script))
+    let nodes = node_count(count)?;
+    Some(RunWords { nodes, script })
 }
