@@ -20,3 +20,6 @@ pub use schema::{ColId, Schema};
 pub use text::Str;
 pub use truth::Truth;
 pub use value::{Kind, Value, ValueRef};
+
+#[cfg(test)]
+mod tests;
