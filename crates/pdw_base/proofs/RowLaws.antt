@@ -1,7 +1,6 @@
 -- The laws of positional rows: a row and its environment give each other back.
-use Rattle.std.proofs.Common.{◌≡◌, ℕ, zero, suc, ◌+◌, ◌<◌, ◌≤◌, Bool, true, false, cond, not, List, [], ◌∷◌, length, map, get_or, Option, Some, None, IsSome, IsNone, ◌==◌, nat_lt, if◌then◌else◌, All, AllPairs, refl, sym, ap, ap₂, ◌∙◌, subst, arith, suc-le-suc, zero-le, eqb-true, eq-eqb, ltb-false}
+use Rattle.std.proofs.Common.{◌≡◌, ℕ, zero, suc, ◌+◌, ◌<◌, ◌≤◌, Bool, true, false, cond, not, List, [], ◌∷◌, length, get_or, Some, None, ◌==◌, nat_lt, if◌then◌else◌, All, refl, sym, ap, ap₂, ◌∙◌, subst, arith, suc-le-suc, eqb-true, eq-eqb, ltb-false}
 use Rattle.std.specs.List.{position_or_len}
-use Rattle.std.proofs.lemmas.Bool.{eqb-false}
 use Rattle.std.proofs.lemmas.List.{length-map, get_or-map}
 use Rattle.std.proofs.lemmas.List.Quantifiers.{position-Some}
 use Rattle.pdw_base.specs.declared.schema.ColId.{ColId}
