@@ -1,11 +1,11 @@
 -- The order of values is total, and equal only for equal values.
-use Rattle.std.proofs.Common.{◌≡◌, ap, ℕ, ℤ, List, refl}
+use Rattle.std.proofs.Common.{◌≡◌, ap, refl}
 use Rattle.std.specs.FinMap.{nat_cmp-IsAntisymmetric, int_cmp-IsAntisymmetric, slice_cmp-IsAntisymmetric}
 use Rattle.std.specs.Cmp.{IsTotalOrder, nat_cmp_total, int_cmp_total, on_total, then_total}
-use Rattle.std.specs.Cmp.Lexicographic.{slice_cmp, nat_list_cmp_total}
+use Rattle.std.specs.Cmp.Lexicographic.{nat_list_cmp_total}
 use Rattle.std.specs.declared.cmp.Ordering.{Ordering}
 use Rattle.std.specs.declared.cmp.Ordering.TheVariants.{Less, Equal, Greater}
-use Rattle.std.specs.Ordering.{nat_cmp, int_cmp, ordering_then}
+use Rattle.std.specs.Ordering.{int_cmp, ordering_then}
 use Rattle.pdw_base.specs.declared.value.Value.{Value}
 use Rattle.pdw_base.specs.declared.value.Value.TheVariants.{Null, Int, Text, Wide}
 use Rattle.pdw_base.specs.Comparison.{class, number, letters, value_cmp}

@@ -3,3 +3,4 @@ pub mod ComparisonLemmas
 pub mod SameBagLaws
 pub mod Steps
 pub mod SchemaLemmas
+pub mod RowLaws

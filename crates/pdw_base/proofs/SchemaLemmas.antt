@@ -1,5 +1,5 @@
 -- Columns that rise from one to the next rise strictly throughout.
-use Rattle.std.proofs.Common.{◌≡◌, ℕ, ◌+◌, ◌-◌, ◌<◌, ◌≤◌, List, length, get_or, subst, arith}
+use Rattle.std.proofs.Common.{◌≡◌, ℕ, ◌+◌, ◌-◌, ◌<◌, ◌≤◌, List, get_or, subst, arith}
 use native.Mathlib.Decide.{dec_lt}
 
 -- the numbers below n rise

@@ -1,6 +1,9 @@
 -- One step of a loop over a list: what holds of the items so far, at one item more.
-use Rattle.std.proofs.Common.{◌≡◌, ℕ, ◌+◌, ◌<◌, List, [], ◌∷◌, ◌++◌, length, map, filter, take, drop, get_or, refl, sym, ap, ◌∙◌, append_assoc}
+use Rattle.std.proofs.Common.{◌≡◌, ℕ, zero, suc, ◌+◌, ◌<◌, Bool, List, [], ◌∷◌, ◌++◌, length, map, filter, fold, if◌then◌else◌, take, drop, get_or, refl, sym, ap, ◌∙◌, append_assoc, arith}
 use Rattle.std.specs.List.{flat_map, zip}
+use Rattle.std.proofs.lemmas.List.Elements.{filter-append}
+use Rattle.std.proofs.lemmas.List.Sums.{fold-append}
+use Rattle.std.proofs.lemmas.Slice.Zip.{length-zip, get_or-zip}
 use Rattle.std.proofs.lemmas.List.{take_more, drop_more, map-append, append-nil}
 use Rattle.std.proofs.lemmas.Grind.{flat_map-append}
 
@@ -23,3 +26,25 @@ module _ {X : Type 0} (xs : List X) (i : ℕ) (x : X) (within : i < length xs) (
       → next ≡ start ++ flat_map f (take (i + 1) xs)
   flat_map-grown f start now next before grown =
       grown ∙ ap (λ ys. ys ++ f x) before ∙ append_assoc start (flat_map f (take i xs)) (f x) ∙ ap (λ ys. start ++ ys) (sym (flat_map-one_more f))
+
+  pub filter-one_more : (test : X → Bool) → filter test (take (i + 1) xs) ≡ filter test (take i xs) ++ (if test x then x ∷ [] else [])
+  filter-one_more test = ap (filter test) take-one_more ∙ filter-append test (take i xs) (x ∷ [])
+
+  pub fold-one_more : {Y : Type 0} (f : Y → X → Y) (start : Y) → fold f start (take (i + 1) xs) ≡ f (fold f start (take i xs)) x
+  fold-one_more f start = ap (fold f start) take-one_more ∙ fold-append f start (take i xs) (x ∷ [])
+
+module _ {X Y : Type 0} where
+  zip-take : (i : ℕ) (xs : List X) (ys : List Y) → zip (take i xs) (take i ys) ≡ take i (zip xs ys)
+  zip-take zero xs ys = refl
+  zip-take (suc i) [] ys = refl
+  zip-take (suc i) (x ∷ xs) [] = refl
+  zip-take (suc i) (x ∷ xs) (y ∷ ys) = ap (λ pairs. (x, y) ∷ pairs) (zip-take i xs ys)
+
+module _ {X Y : Type 0} (xs : List X) (ys : List Y) (i : ℕ) (x : X) (y : Y) (within : i < length xs) (also : i < length ys) (item : x ≡ get_or xs i x) (other : y ≡ get_or ys i y) where
+  pub take_zip-one_more : take (i + 1) (zip xs ys) ≡ take i (zip xs ys) ++ (x, y) ∷ []
+  take_zip-one_more =
+      let all = length-zip xs ys in
+      take-one_more (zip xs ys) i (x, y) (omega arith) ((λ j. (item j, other j)) ∙ sym (get_or-zip xs ys i (x, y) within also))
+
+  pub zip-one_more : zip (take (i + 1) xs) (take (i + 1) ys) ≡ zip (take i xs) (take i ys) ++ (x, y) ∷ []
+  zip-one_more = zip-take (i + 1) xs ys ∙ take_zip-one_more ∙ ap (λ pairs. pairs ++ (x, y) ∷ []) (sym (zip-take i xs ys))

@@ -1,5 +1,5 @@
 -- What the test of UTF-8 says of the text of some bytes.
-use Rattle.std.proofs.Common.{◌≡◌, ℕ, List, Bool, true, false, Option, Some, None, ap, refl, if◌then◌else◌}
+use Rattle.std.proofs.Common.{◌≡◌, ℕ, List, Bool, true, false, Some, None, ap, refl, if◌then◌else◌}
 use Rattle.std.specs.Str.{IsUtf8, is_utf8}
 use Rattle.std.proofs.lemmas.Str.{IsUtf8-from_is_utf8, is_utf8-from_IsUtf8}
 use Rattle.pdw_base.specs.Text.{text_of}

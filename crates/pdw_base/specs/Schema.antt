@@ -1,5 +1,5 @@
 -- Columns by their numbers, and the positional rows that fit them.
-use Rattle.std.specs.Prelude.{◌≡◌, ⊤, ◌==◌, ℕ, ◌<◌, List, [], ◌∷◌, Option, AllPairs, position, map, if◌then◌else◌}
+use Rattle.std.specs.Prelude.{⊤, ◌==◌, ℕ, ◌<◌, List, [], ◌∷◌, Option, AllPairs, position, map, if◌then◌else◌}
 use Rattle.pdw_base.specs.declared.schema.ColId.{ColId}
 use Rattle.pdw_base.specs.declared.value.Kind.{Kind}
 use Rattle.pdw_base.specs.declared.value.Value.{Value}

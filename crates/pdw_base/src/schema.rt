@@ -1,5 +1,8 @@
-ghost use Rattle.std.specs.Prelude.{◌≡◌, IfOk, SomeIff};
-ghost use Rattle.pdw_base.specs.Schema.{IsAscending, place_of};
+ghost use Rattle.std.specs.Prelude.{◌≡◌, ℕ, List, IfOk, SomeIff, IsSome, IsNone, get_or, length, Some};
+ghost use Rattle.pdw_base.specs.declared.schema.ColId.{ColId as Column};
+ghost use Rattle.pdw_base.specs.declared.value.Value.{Value as SqlValue};
+ghost use Rattle.pdw_base.specs.declared.value.Value.TheVariants as sql;
+ghost use Rattle.pdw_base.specs.Schema.{Columns, Env, FitsColumns, IsAscending, cell, place_of, row_over};
 
 use crate::{Kind, NoMemory};
 use std::alloc::Global;
@@ -64,3 +67,12 @@ impl Schema {
         })
     }
 }
+
+/// The law of positional rows: a row stands for an environment, and the two give each other back.
+pub fn row_over_reads_back()
+    ensures length { (columns : Columns) (env : Env) → length (row_over columns env) ≡ length columns }
+    ensures present { (columns : Columns) (env : Env) (c : Column) → IsSome (place_of c columns) → cell columns (row_over columns env) c ≡ env c }
+    ensures absent { (columns : Columns) (row : List SqlValue) (c : Column) → IsNone (place_of c columns) → cell columns row c ≡ sql.Null }
+    ensures place { (columns : Columns) (row : List SqlValue) (c : Column) (i : ℕ) → place_of c columns ≡ Some i → cell columns row c ≡ get_or row i sql.Null }
+    ensures back { (columns : Columns) (row : List SqlValue) → IsAscending columns → FitsColumns columns row → row_over columns (cell columns row) ≡ row }
+{}
