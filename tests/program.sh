@@ -1,0 +1,63 @@
+#!/usr/bin/env bash
+# Runs the built program once for each way in which a run ends, and compares its exit status and its output.
+set -u
+top=$(cd "$(dirname "$0")/.." && pwd)
+folder=$(mktemp -d)
+trap 'rm -rf "$folder"' EXIT
+cd "$folder" || exit 1
+passed=0
+failed=0
+
+cat >s.sql <<'SCRIPT'
+CREATE TABLE t (a INT, b TEXT) WITH (DISTRIBUTION = HASH(a));
+LOAD t FROM 't.csv';
+SELECT * FROM t;
+SCRIPT
+printf '4,x\n\\N,y\n' >t.csv
+head -n 2 s.sql >two_lines.sql
+sed 's/t.csv/none.csv/' s.sql >no_file.sql
+
+# A name, the wanted status, the wanted output, and then the words.
+expect() {
+    local name=$1 status=$2 output=$3
+    shift 3
+    local found
+    found=$("$@" 2>/dev/null)
+    local ended=$?
+    if [ "$ended" -eq "$status" ] && [ "$found" = "$output" ]; then
+        passed=$((passed + 1))
+    else
+        failed=$((failed + 1))
+        echo "$name: status $ended, wanted $status; output:"
+        echo "$found"
+    fi
+}
+
+# Under this limit of its memory the program does not have the room for the rows.
+in_little_memory() {
+    (
+        ulimit -v 60000
+        "$@"
+    )
+}
+
+seq 1 900000 >many.csv
+sed 's/t.csv/many.csv/; s/, b TEXT//' s.sql >many.sql
+
+"$top/pdw" run >/dev/null 2>&1 # builds it, where that is still to be done
+expect done 0 "$(printf 'OK\nLOADED 2\na,b\nNULL,"y"\n4,"x"\nROWS 2')" "$top/pdw" run 3 s.sql
+expect 'one node' 0 "$(printf 'OK\nLOADED 2\na,b\n4,"x"\nNULL,"y"\nROWS 2')" "$top/pdw" run 1 s.sql
+expect refused 1 'REFUSED E6 SYNTAX AT 83' "$top/pdw" run 3 two_lines.sql
+expect 'no words' 2 '' "$top/pdw"
+expect 'no nodes' 2 '' "$top/pdw" run 0 s.sql
+expect 'too many nodes' 2 '' "$top/pdw" run 17 s.sql
+expect 'a leading zero' 2 '' "$top/pdw" run 04 s.sql
+expect 'no script' 2 '' "$top/pdw" run 4
+expect 'words that are not UTF-8' 2 '' "$top/pdw" run 4 $'\xff'
+expect 'a file that is not there' 3 OK "$top/pdw" run 3 no_file.sql
+expect 'a script that is not there' 3 '' "$top/pdw" run 3 none.sql
+expect 'an output that is full' 4 '' sh -c '"$1" run 3 s.sql >/dev/full' sh "$top/pdw"
+expect 'little memory' 5 OK in_little_memory "$top/pdw" run 3 many.sql
+
+echo "$passed passed, $failed failed"
+[ "$failed" -eq 0 ]
