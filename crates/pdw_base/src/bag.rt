@@ -1,4 +1,4 @@
-ghost use Rattle.std.specs.Prelude.{◌≡◌, [], ◌∷◌, ◌++◌, take, IfOk, OnOk, OnErr};
+ghost use Rattle.std.specs.Prelude.{◌≡◌, [], ◌∷◌, ◌++◌, take, vec_capacity, IfOk, OnOk, OnErr};
 
 use crate::{NoMemory, Row};
 use std::alloc::Global;
@@ -55,6 +55,7 @@ impl Bag {
         ensures emptied { OnOk result (rows.new.items ≡ []) }
         ensures err { OnErr result (self.new ≡ self.old) }
         ensures kept { OnErr result (rows.new.items ≡ rows.old.items) }
+        ensures room { vec_capacity rows.new ≡ vec_capacity rows.old }
     {
         match self.rows.append(rows) {
             Ok(()) => Ok(()),

@@ -67,6 +67,7 @@ fn an_unknown_name_fails(rt: HostRuntime) -> Result<(), Fail> {
 #[test]
 fn a_file_of_more_bytes_than_the_limit_is_too_long(rt: HostRuntime) -> Result<(), Fail> {
     let alloc = rt.alloc();
+    // A read behind one byte more than the limit would fail.
     for (limit, piece, fits) in [
         (14, 1, true),
         (13, 1, false),
@@ -74,7 +75,8 @@ fn a_file_of_more_bytes_than_the_limit_is_too_long(rt: HostRuntime) -> Result<()
         (13, 14, false),
         (0, 3, false),
     ] {
-        let mut files = MemFiles::new(entries(alloc)?, Vec::new(alloc), piece);
+        let fails = vec![in alloc; limit as u64 + 2]?;
+        let mut files = MemFiles::new(entries(alloc)?, fails, piece);
         match read_whole(alloc, &mut files, NAME, limit) {
             Ok(found) => {
                 assert!(rt; fits, "{limit}");
