@@ -1,14 +1,15 @@
 -- Statements that are executed one after the other.
-use Rattle.std.proofs.Common.{◌≡◌, ℕ, ◌+◌, ◌<◌, List, [], ◌∷◌, ◌++◌, length, drop, get_or, refl, sym, ap, ◌∙◌, subst, inl, inr, append_assoc, take, Option, None, Some}
+use Rattle.std.proofs.Common.{◌≡◌, ℕ, ◌+◌, ◌<◌, List, [], ◌∷◌, length, drop, get_or, refl, sym, ap, ◌∙◌, subst, inl, inr, append_assoc, append-nil, Option, None, Some}
 use Rattle.pdw_base.proofs.Steps.{drop-one_more}
 use Rattle.pdw_catalog.specs.Appliance.{CanCreate, Contents, HasTable}
 use Rattle.pdw_catalog.specs.Catalog.{Tables}
 use Rattle.pdw_outside.specs.Whole.{IsContent}
 use Rattle.pdw.specs.declared.statement.Statement.{Statement}
 use Rattle.pdw.specs.declared.statement.Statement.TheVariants.{Create, Load, Select}
-use Rattle.pdw.specs.Output.{End, Cut, Refused, Stopped, EndsIn, EndsLine, Gives, Held, Writes}
+use Rattle.pdw.specs.Output.{End, Cut, Refused, Stopped, EndsIn, EndsLine, Gives, Held, Refuses, Writes}
 use Rattle.pdw.specs.Perform.{CanPerform}
 use Rattle.pdw.specs.Plain.{Plain, plain_of}
+use Rattle.pdw.specs.Trace.{Trace, cut_at, followed_by, nothing, prints}
 use Rattle.pdw.specs.declared.status.Status.{Status}
 use Rattle.pdw.specs.declared.status.Status.TheVariants as status
 use Rattle.pdw.specs.Run.{CanRun, EndsBy, EndsRefused, Steps}
@@ -20,11 +21,17 @@ CanPerform-first contents (Load name file) statements can = can.0
 CanPerform-first contents (Select name) statements can = can.0
 
 -- and the others can run in the state that it leaves
-pub CanRun-rest : (held : Held) (old new : Plain) (statement : Statement) (statements : List Statement) (text : List ℕ)
-    → CanRun old.tables (statement ∷ statements) → Gives held old statement text new → CanRun new.tables statements
-CanRun-rest held old new (Create table) statements text can gives = subst (λ tables. CanRun tables statements) (sym gives.1.tables) can.3
-CanRun-rest held old new (Load name file) statements text can gives = subst (λ tables. CanRun tables statements) (sym gives.2.gained.tables) can.1
-CanRun-rest held old new (Select name) statements text can gives = subst (λ tables. CanRun tables statements) (sym gives.same.tables) can.1
+pub CanRun-rest : (held : Held) (old new : Plain) (statement : Statement) (statements : List Statement) (trace : Trace)
+    → CanRun old.tables (statement ∷ statements) → Gives held old statement trace new → CanRun new.tables statements
+CanRun-rest held old new (Create table) statements trace can gives = subst (λ tables. CanRun tables statements) (sym gives.1.tables) can.3
+CanRun-rest held old new (Load name file) statements trace can gives = subst (λ tables. CanRun tables statements) (sym gives.2.gained.tables) can.1
+CanRun-rest held old new (Select name) statements trace can gives = subst (λ tables. CanRun tables statements) (sym gives.same.tables) can.1
+
+followed_by-assoc : (first second third : Trace) → followed_by (followed_by first second) third ≡ followed_by first (followed_by second third)
+followed_by-assoc first second third = ap prints (append_assoc first.text second.text third.text)
+
+pub followed_by-nothing : (trace : Trace) → followed_by trace nothing ≡ trace
+followed_by-nothing trace = ap prints (append-nil trace.text)
 
 -- what is left of the statements at a place of the loop
 module _ (statements : List Statement) (place : ℕ) (statement : Statement) (within : place < length statements) (item : statement ≡ get_or statements place statement) where
@@ -32,19 +39,19 @@ module _ (statements : List Statement) (place : ℕ) (statement : Statement) (wi
   CanRun-here tables can = subst (CanRun tables) (drop-one_more statements place statement within item) can
 
   -- the text of one statement, put behind what was written before, is written by the statements so far
-  pub Writes-more : (held : Held) (first state next : Plain) (all : List Statement) (done text : List ℕ)
-      → ((end : End) (rest : List ℕ) → Writes held (place + 1) state (drop place statements) end rest → Writes held 1 first all end (done ++ rest))
-      → Gives held state statement text next
-      → (end : End) (rest : List ℕ) → Writes held (place + 1 + 1) next (drop (place + 1) statements) end rest → Writes held 1 first all end ((done ++ text) ++ rest)
-  Writes-more held first state next all done text before gives end rest after =
-      subst (Writes held 1 first all end) (sym (append_assoc done text rest))
-      (before end (text ++ rest) (subst (λ left. Writes held (place + 1) state left end (text ++ rest)) (sym (drop-one_more statements place statement within item))
-      (inr (text, rest, next, gives, after, refl))))
+  pub Writes-more : (held : Held) (first state next : Plain) (all : List Statement) (done trace : Trace)
+      → ((end : End) (rest : Trace) → Writes held (place + 1) state (drop place statements) end rest → Writes held 1 first all end (followed_by done rest))
+      → Gives held state statement trace next
+      → (end : End) (rest : Trace) → Writes held (place + 1 + 1) next (drop (place + 1) statements) end rest → Writes held 1 first all end (followed_by (followed_by done trace) rest)
+  Writes-more held first state next all done trace before gives end rest after =
+      subst (Writes held 1 first all end) (sym (followed_by-assoc done trace rest))
+          (before end (followed_by trace rest) (subst (λ left. Writes held (place + 1) state left end (followed_by trace rest)) (sym (drop-one_more statements place statement within item))
+              (inr (trace, rest, next, gives, after, refl))))
 
   -- the end at one statement is the end of them all
-  pub Writes-end : (held : Held) (first state : Plain) (all : List Statement) (done out : List ℕ) (end : End)
-      → ((end : End) (rest : List ℕ) → Writes held (place + 1) state (drop place statements) end rest → Writes held 1 first all end (done ++ rest))
-      → EndsIn held (place + 1) state statement end out → Writes held 1 first all end (done ++ out)
+  pub Writes-end : (held : Held) (first state : Plain) (all : List Statement) (done out : Trace) (end : End)
+      → ((end : End) (rest : Trace) → Writes held (place + 1) state (drop place statements) end rest → Writes held 1 first all end (followed_by done rest))
+      → EndsIn held (place + 1) state statement end out → Writes held 1 first all end (followed_by done out)
   Writes-end held first state all done out end before ends =
       before end out (subst (λ left. Writes held (place + 1) state left end out) (sym (drop-one_more statements place statement within item)) (inl ends))
 
@@ -59,21 +66,33 @@ Steps-ended held k state statement next before after old new status.WriteFault o
 Steps-ended held k state statement next before after old new status.Memory other steps = steps
 
 -- statements that are not begun for want of memory write nothing
-pub Writes-stopped : (held : Held) (k : ℕ) (state : Plain) (statements : List Statement) → Writes held k state statements Stopped []
+pub Writes-stopped : (held : Held) (k : ℕ) (state : Plain) (statements : List Statement) → Writes held k state statements Stopped nothing
 Writes-stopped held k state [] = refl
 Writes-stopped held k state (statement ∷ statements) = inl refl
 
 -- the line of a refusal, where it ends what is written
-pub EndsBy-refused : (now : Status) (old new : Option (List ℕ)) (earlier later : ℕ) (line : List ℕ) (writes : End → List ℕ → Type 0) (before after : List ℕ → ℕ)
-    → EndsRefused now old new earlier later line → ((end : End) (out : List ℕ) → EndsLine end line out → writes end out) → EndsBy now before after writes old new
+pub EndsBy-refused : (now : Status) (old new : Option (List ℕ)) (earlier later : ℕ) (line : List ℕ) (writes : End → Trace → Type 0) (before after : List ℕ → ℕ)
+    → EndsRefused now old new earlier later line → ((end : End) (out : Trace) → EndsLine end line out → writes end out) → EndsBy now before after writes old new
 EndsBy-refused status.Done old new earlier later line writes before after ends lawful = absurd ends
-EndsBy-refused status.Refused old new earlier later line writes before after ends lawful = (Refused, line, refl, lawful Refused line refl, ends.0)
+EndsBy-refused status.Refused old new earlier later line writes before after ends lawful = (Refused, prints line, refl, lawful Refused (prints line) refl, ends.0)
 EndsBy-refused status.BadWords old new earlier later line writes before after ends lawful = absurd ends
 EndsBy-refused status.ReadFault old new earlier later line writes before after ends lawful = absurd ends
-EndsBy-refused status.WriteFault old new earlier later line writes before after ends lawful = (Cut, take ends.0 line, refl, lawful Cut (take ends.0 line) (ends.0, refl), ends.1)
+EndsBy-refused status.WriteFault old new earlier later line writes before after ends lawful = (Cut, cut_at ends.0 (prints line), refl, lawful Cut (cut_at ends.0 (prints line)) (ends.0, refl), ends.1)
 EndsBy-refused status.Memory old new earlier later line writes before after ends lawful = absurd ends
 
 -- every name has some content, where it is told and where it is not
 pub some_content : (told : Option (List ℕ)) → (content : List ℕ) × IsContent told content
 some_content None = ([], tt)
 some_content (Some content) = (content, refl)
+
+-- the line that refuses a statement ends the script
+pub Steps-refused : (held : Held) (k : ℕ) (state : Plain) (statement : Statement) (next : Plain) (before after : List ℕ → ℕ) (old new : Option (List ℕ)) (earlier later : ℕ) (line : List ℕ) (now : Status)
+    → Refuses held k state statement line → EndsRefused now old new earlier later line → Steps held k state statement next before after old new now
+Steps-refused held k state statement next before after old new earlier later line status.Done refuses ends = absurd ends
+Steps-refused held k state statement next before after old new earlier later line status.Refused refuses ends =
+    (Refused, prints line, refl, (line, refuses, refl), ends.0)
+Steps-refused held k state statement next before after old new earlier later line status.BadWords refuses ends = absurd ends
+Steps-refused held k state statement next before after old new earlier later line status.ReadFault refuses ends = absurd ends
+Steps-refused held k state statement next before after old new earlier later line status.WriteFault refuses ends =
+    (Cut, cut_at ends.0 (prints line), refl, (prints line, ends.0, inr (line, refuses, refl), refl), ends.1)
+Steps-refused held k state statement next before after old new earlier later line status.Memory refuses ends = absurd ends

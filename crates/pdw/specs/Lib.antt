@@ -4,6 +4,7 @@ pub mod Text
 pub mod Plain
 pub mod Refusal
 pub mod RefusalLine
+pub mod Trace
 pub mod Output
 pub mod Perform
 pub mod Reading

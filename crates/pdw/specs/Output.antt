@@ -18,6 +18,7 @@ use Rattle.pdw.specs.Plain.{Plain, SamePlain, start, with_table, with_rows}
 use Rattle.pdw.specs.Refusal.{long_script_line, syntax_line, limit_line, fault_line}
 use Rattle.pdw.specs.Script.{Spells, FaultAt}
 use Rattle.pdw.specs.Text.{done_text, loaded_text, rows_text}
+use Rattle.pdw.specs.Trace.{Trace, cut_at, followed_by, nothing, prints}
 use Rattle.pdw.specs.Words.{AskRun, HaveNoForm}
 
 -- the bytes that the files tell of each name
@@ -27,29 +28,29 @@ Held = List ℕ → Option (List ℕ)
 -- ---- one statement
 
 -- a file of this content is loaded into a table: it is within the limit, no record has a fault, and the table keeps its limit
-pub record LoadsContent (old : Plain) (name content : List ℕ) (text : List ℕ) (new : Plain) : Type 0 where
+pub record LoadsContent (old : Plain) (name content : List ℕ) (trace : Trace) (new : Plain) : Type 0 where
   pub table : Table
   pub there : table_named name old.tables ≡ Some table
   pub short : length content ≤ MOST_FILE_BYTES
   pub sound : faults_of table (records_of content) ≡ []
   pub room : length (old.rows name) + length (records_of content) ≤ most_rows table.placing
-  pub printed : text ≡ loaded_text (length (records_of content))
+  pub printed : trace ≡ prints (loaded_text (length (records_of content)))
   pub gained : SamePlain (with_rows name (rows_of table (records_of content)) old) new
 
 -- SELECT prints all rows of the table, in any order
-pub record Selects (old : Plain) (name : List ℕ) (text : List ℕ) (new : Plain) : Type 0 where
+pub record Selects (old : Plain) (name : List ℕ) (trace : Trace) (new : Plain) : Type 0 where
   pub table : Table
   pub there : table_named name old.tables ≡ Some table
   pub rows : List Row
   pub answer : IsPermutation (old.rows name) rows
-  pub printed : text ≡ rows_text (map (λ column. column.name) table.columns) rows
+  pub printed : trace ≡ prints (rows_text (map (λ column. column.name) table.columns) rows)
   pub same : SamePlain old new
 
--- a statement in a state prints this text and leaves that state
-abbrev pub Gives : Held → Plain → Statement → List ℕ → Plain → Type 0
-Gives held old (Create table) text new = (text ≡ done_text) × SamePlain (with_table table old) new
-Gives held old (Load name file) text new = (content : List ℕ) × IsContent (held file) content × LoadsContent old name content text new
-Gives held old (Select name) text new = Selects old name text new
+-- a statement in a state leaves this trace and that state
+abbrev pub Gives : Held → Plain → Statement → Trace → Plain → Type 0
+Gives held old (Create table) trace new = (trace ≡ prints done_text) × SamePlain (with_table table old) new
+Gives held old (Load name file) trace new = (content : List ℕ) × IsContent (held file) content × LoadsContent old name content trace new
+Gives held old (Select name) trace new = Selects old name trace new
 
 -- why a file is not loaded: its length, or else its first faulty record, or else the limit of the table's rows
 abbrev pub LoadFault : ℕ → Plain → List ℕ → Table → List ℕ → List ℕ → Type 0
@@ -88,55 +89,58 @@ pub data End : Type 0 where
   Stopped : End
 
 -- a line alone, whole or cut
-abbrev pub EndsLine : End → List ℕ → List ℕ → Type 0
+abbrev pub EndsLine : End → List ℕ → Trace → Type 0
 EndsLine Finished line out = ⊥
-EndsLine Refused line out = out ≡ line
+EndsLine Refused line out = out ≡ prints line
 EndsLine (Unread file) line out = ⊥
-EndsLine Cut line out = (count : ℕ) × (out ≡ take count line)
-EndsLine Stopped line out = out ≡ []
+EndsLine Cut line out = (count : ℕ) × (out ≡ cut_at count (prints line))
+EndsLine Stopped line out = out ≡ nothing
 
 -- no statement is left
-abbrev pub EndsAfter : End → List ℕ → Type 0
-EndsAfter Finished out = out ≡ []
+abbrev pub EndsAfter : End → Trace → Type 0
+EndsAfter Finished out = out ≡ nothing
 EndsAfter Refused out = ⊥
 EndsAfter (Unread file) out = ⊥
 EndsAfter Cut out = ⊥
-EndsAfter Stopped out = out ≡ []
+EndsAfter Stopped out = out ≡ nothing
 
--- the script ends at statement k, of which this is written
-abbrev pub EndsIn : Held → ℕ → Plain → Statement → End → List ℕ → Type 0
+-- the text of statement k is its own, or the line that refuses it
+abbrev pub Says : Held → ℕ → Plain → Statement → Trace → Type 0
+Says held k old statement trace = ((new : Plain) × Gives held old statement trace new) ⊎ ((line : List ℕ) × Refuses held k old statement line × (trace ≡ prints line))
+
+-- the script ends at statement k, of which this is left
+abbrev pub EndsIn : Held → ℕ → Plain → Statement → End → Trace → Type 0
 EndsIn held k old statement Finished out = ⊥
-EndsIn held k old statement Refused out = Refuses held k old statement out
-EndsIn held k old statement (Unread file) out = Wants statement file × (out ≡ [])
-EndsIn held k old statement Cut out =
-    (text : List ℕ) × (count : ℕ) × (((new : Plain) × Gives held old statement text new) ⊎ Refuses held k old statement text) × (out ≡ take count text)
-EndsIn held k old statement Stopped out = out ≡ []
+EndsIn held k old statement Refused out = (line : List ℕ) × Refuses held k old statement line × (out ≡ prints line)
+EndsIn held k old statement (Unread file) out = Wants statement file × (out ≡ nothing)
+EndsIn held k old statement Cut out = (trace : Trace) × (count : ℕ) × Says held k old statement trace × (out ≡ cut_at count trace)
+EndsIn held k old statement Stopped out = out ≡ nothing
 
--- statements, of which the first has number k, write this and end so: each gives its text in the state that the one before it left, to the end or to
+-- statements, of which the first has number k, leave this and end so: each gives its text in the state that the one before it left, to the end or to
 -- the statement at which the script ends
-abbrev pub Writes : Held → ℕ → Plain → List Statement → End → List ℕ → Type 0
+abbrev pub Writes : Held → ℕ → Plain → List Statement → End → Trace → Type 0
 Writes held k old [] end out = EndsAfter end out
 Writes held k old (statement ∷ statements) end out =
     EndsIn held k old statement end out
-    ⊎ ((text rest : List ℕ) × (new : Plain) × Gives held old statement text new × Writes held (k + 1) new statements end rest × (out ≡ text ++ rest))
+    ⊎ ((trace rest : Trace) × (new : Plain) × Gives held old statement trace new × Writes held (k + 1) new statements end rest × (out ≡ followed_by trace rest))
 
 -- the statements of a script of three lines
 abbrev pub statements_of : Table → List ℕ → List Statement
 statements_of table file = Create table ∷ Load table.name file ∷ Select table.name ∷ []
 
 -- what the bytes of a script write: the line of a text fault alone, or what its statements write; nothing where memory was wanted to tell which
-abbrev pub ScriptWrites : Held → ℕ → List ℕ → End → List ℕ → Type 0
+abbrev pub ScriptWrites : Held → ℕ → List ℕ → End → Trace → Type 0
 ScriptWrites held nodes script end out =
     ((MOST_SCRIPT_BYTES < length script) × EndsLine end long_script_line out)
     ⊎ ((length script ≤ MOST_SCRIPT_BYTES) × (at : ℕ) × FaultAt script at × EndsLine end (syntax_line at) out)
     ⊎ ((length script ≤ MOST_SCRIPT_BYTES) × (table : Table) × (file : List ℕ) × Spells script table file
     × Writes held 1 (start nodes) (statements_of table file) end out)
-    ⊎ ((end ≡ Stopped) × (out ≡ []))
+    ⊎ ((end ≡ Stopped) × (out ≡ nothing))
 
 -- what the script of a name writes; nothing where it was not read
-abbrev pub Outputs : Held → ℕ → List ℕ → End → List ℕ → Type 0
+abbrev pub Outputs : Held → ℕ → List ℕ → End → Trace → Type 0
 Outputs held nodes name end out =
-    ((script : List ℕ) × IsContent (held name) script × ScriptWrites held nodes script end out) ⊎ ((end ≡ Unread name) × (out ≡ []))
+    ((script : List ℕ) × IsContent (held name) script × ScriptWrites held nodes script end out) ⊎ ((end ≡ Unread name) × (out ≡ nothing))
 
 -- ---- the status
 
@@ -150,9 +154,9 @@ Tells status.WriteFault before after end = end ≡ Cut
 Tells status.Memory before after end = end ≡ Stopped
 
 -- the words have no form and nothing is written, or the script that they name writes this and ends as the status tells
-abbrev pub Lawful : Held → (List ℕ → ℕ) → (List ℕ → ℕ) → List (List ℕ) → Status → List ℕ → Type 0
+abbrev pub Lawful : Held → (List ℕ → ℕ) → (List ℕ → ℕ) → List (List ℕ) → Status → Trace → Type 0
 Lawful held before after words state out =
-    ((state ≡ status.BadWords) × HaveNoForm words × (out ≡ []))
+    ((state ≡ status.BadWords) × HaveNoForm words × (out ≡ nothing))
     ⊎ ((nodes : ℕ) × (script : List ℕ) × AskRun words nodes script × (end : End) × Tells state before after end × Outputs held nodes script end out)
 
 -- the counts of the files are as before, but where a file could not be read
@@ -177,10 +181,10 @@ CountsWriting status.Memory before after = after ≡ before
 
 -- a lawful output of the script of a name may stop at this file: it is the script, or a statement that is reached wants it
 abbrev pub MayStopAt : Held → ℕ → List ℕ → List ℕ → Type 0
-MayStopAt held nodes script file = (out : List ℕ) × Outputs held nodes script (Unread file) out
+MayStopAt held nodes script file = (out : Trace) × Outputs held nodes script (Unread file) out
 
 -- the words ask for a run that meets no fault: no lawful output ends with a refusal, and no file at which one may stop failed
 abbrev pub MeetsNoFault : Held → (List ℕ → ℕ) → (List ℕ → ℕ) → List (List ℕ) → Type 0
 MeetsNoFault held before after words =
     (nodes : ℕ) (script : List ℕ) → AskRun words nodes script
-    → ((out : List ℕ) → ¬ (Outputs held nodes script Refused out)) × ((file : List ℕ) → MayStopAt held nodes script file → ¬ (Rose (before file) (after file)))
+    → ((out : Trace) → ¬ (Outputs held nodes script Refused out)) × ((file : List ℕ) → MayStopAt held nodes script file → ¬ (Rose (before file) (after file)))

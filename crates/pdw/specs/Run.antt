@@ -11,6 +11,7 @@ use Rattle.pdw.specs.declared.status.Status.{Status}
 use Rattle.pdw.specs.declared.status.Status.TheVariants as status
 use Rattle.pdw.specs.Output.{End, EndsIn, Gives, Held, Tells}
 use Rattle.pdw.specs.Plain.{Plain}
+use Rattle.pdw.specs.Trace.{Trace}
 
 -- statements that can be executed one after the other: each makes a new table, or finds its table there
 abbrev pub CanRun : Tables → List Statement → Type 0
@@ -30,12 +31,12 @@ EndsRefused status.WriteFault old new before after line = (count : ℕ) × Adds 
 EndsRefused status.Memory old new before after line = ⊥
 
 -- this was written, and the script ends so
-abbrev pub EndsBy : Status → (List ℕ → ℕ) → (List ℕ → ℕ) → (End → List ℕ → Type 0) → Option (List ℕ) → Option (List ℕ) → Type 0
-EndsBy state before after writes old new = (end : End) × (text : List ℕ) × Tells state before after end × writes end text × Adds old new text
+abbrev pub EndsBy : Status → (List ℕ → ℕ) → (List ℕ → ℕ) → (End → Trace → Type 0) → Option (List ℕ) → Option (List ℕ) → Type 0
+EndsBy state before after writes old new = (end : End) × (trace : Trace) × Tells state before after end × writes end trace × Adds old new trace.text
 
 -- statement k gave its text, which was written, or the script ends at it
 abbrev pub Steps : Held → ℕ → Plain → Statement → Plain → (List ℕ → ℕ) → (List ℕ → ℕ) → Option (List ℕ) → Option (List ℕ) → Status → Type 0
-Steps held k state statement next before after old new status.Done = (text : List ℕ) × Gives held state statement text next × Adds old new text
+Steps held k state statement next before after old new status.Done = (trace : Trace) × Gives held state statement trace next × Adds old new trace.text
 Steps held k state statement next before after old new status.Refused = EndsBy status.Refused before after (EndsIn held k state statement) old new
 Steps held k state statement next before after old new status.BadWords = EndsBy status.BadWords before after (EndsIn held k state statement) old new
 Steps held k state statement next before after old new status.ReadFault = EndsBy status.ReadFault before after (EndsIn held k state statement) old new

@@ -6,6 +6,7 @@ ghost use Rattle.pdw.specs.Output.{Gives, LoadsContent, Selects};
 ghost use Rattle.pdw.specs.Perform.{CanPerform, Stops, StopsContent};
 ghost use Rattle.pdw.specs.Plain.{SamePlain, plain_of, with_table};
 ghost use Rattle.pdw.specs.Text.{done_text};
+ghost use Rattle.pdw.specs.Trace.{prints};
 
 use crate::refusal::{MOST_FILE_BYTES, Refusal};
 use crate::statement::Statement;
@@ -37,7 +38,7 @@ fn load(
 ) -> Result<Vec<u8>, Stop>
     requires there { HasTable appliance.old name.now }
     requires short { length content.now ≤ MOST_FILE_BYTES }
-    ensures loaded { IfOk result (λ text. LoadsContent (plain_of appliance.old) name.now content.now text.items (plain_of appliance.new)) }
+    ensures loaded { IfOk result (λ text. LoadsContent (plain_of appliance.old) name.now content.now (prints text.items) (plain_of appliance.new)) }
     ensures stop { IfErr result (StopsContent (plain_of appliance.old) name.now content.now) }
     ensures kept { OnErr result (appliance.new ≡ appliance.old) }
 {
@@ -58,7 +59,7 @@ fn load(
 
 fn select(alloc: Global, appliance: &Appliance, name: &Str) -> Result<Vec<u8>, NoMemory>
     requires { HasTable appliance.now name.now }
-    ensures { IfOk result (λ text. Selects (plain_of appliance.now) name.now text.items (plain_of appliance.now)) }
+    ensures { IfOk result (λ text. Selects (plain_of appliance.now) name.now (prints text.items) (plain_of appliance.now)) }
 {
     let table = appliance.table(name);
     let mut text = Vec::new(alloc);
@@ -78,7 +79,7 @@ pub fn perform<F: Files>(
     files: &mut F,
 ) -> Result<Vec<u8>, Stop>
     requires { CanPerform appliance.old statement.now }
-    ensures text { IfOk result (λ text. Gives (F.bytes files.old) (plain_of appliance.old) statement.now text.items (plain_of appliance.new)) }
+    ensures text { IfOk result (λ text. Gives (F.bytes files.old) (plain_of appliance.old) statement.now (prints text.items) (plain_of appliance.new)) }
     ensures stop { IfErr result (Stops (F.bytes files.old) (F.faults files.old) (F.faults files.new) (plain_of appliance.old) statement.now) }
     ensures kept { OnErr result (appliance.new ≡ appliance.old) }
     ensures quiet { OnOk result (F.faults files.new ≡ F.faults files.old) }

@@ -6,6 +6,7 @@ ghost use Rattle.pdw_outside.specs.Sink.{Adds};
 ghost use Rattle.pdw.specs.Output.{CountsWriting, Lawful, MeetsNoFault, Outputs, SameReading, ScriptWrites, Writes, statements_of};
 ghost use Rattle.pdw.specs.Plain.{start};
 ghost use Rattle.pdw.specs.Run.{CanRun, EndsBy};
+ghost use Rattle.pdw.specs.Trace.{Trace};
 ghost use Rattle.pdw.specs.Words.{HaveNoForm};
 ghost use Rattle.pdw.specs.declared.status.Status.TheVariants as status;
 
@@ -113,7 +114,7 @@ fn run_script<F: Files, S: Sink>(
 /// The bytes written are a lawful output of the script and the files, as the status tells: whole at Done, up to
 /// the line of the first refusal at Refused, and the texts before the statement at which the run stopped otherwise.
 pub fn run<F: Files, S: Sink>(alloc: Global, words: &[Str], files: &mut F, out: &mut S) -> Status
-    ensures lawful { (text : List ℕ) × Lawful (F.bytes files.old) (F.faults files.old) (F.faults files.new) words.now result text × Adds (S.written out.old) (S.written out.new) text }
+    ensures lawful { (trace : Trace) × Lawful (F.bytes files.old) (F.faults files.old) (F.faults files.new) words.now result trace × Adds (S.written out.old) (S.written out.new) trace.text }
 
     // Where nothing is at fault and no stream fails, every statement is executed, or memory is wanted.
     ensures completes { ¬ (HaveNoForm words.now) → MeetsNoFault (F.bytes files.old) (F.faults files.old) (F.faults files.new) words.now → ¬ (Rose (S.faults out.old) (S.faults out.new)) → (result ≡ status.Done) ⊎ (result ≡ status.Memory) }

@@ -5,6 +5,7 @@ use Rattle.pdw_catalog.specs.Appliance.{whole_of}
 use Rattle.pdw_catalog.specs.Table.{most_rows}
 use Rattle.pdw.specs.Plain.{SamePlain, plain_of, with_rows}
 use Rattle.pdw.specs.Text.{loaded_text}
+use Rattle.pdw.specs.Trace.{prints}
 use Rattle.pdw.proofs.PlainLemmas.{SamePlain-gained}
 use Rattle.pdw.proofs.perform.load.Goals as goal
 
@@ -25,7 +26,7 @@ returns-clause-loaded c =
       short = c.requires.short;
       sound = c.in-Ok.ensures.faultless;
       room = omega arith;
-      printed = c.in_ok-text.ensures ∙ ap loaded_text (len ∙ count);
+      printed = ap prints (c.in_ok-text.ensures ∙ ap loaded_text (len ∙ count));
       gained = subst (λ more. SamePlain (with_rows c.args.name.now more (plain_of c.args.appliance.now)) (plain_of c.append_rows.new.self)) read
           (SamePlain-gained _ _ _ _ c.in_ok-append_rows.ensures.ok);
     }

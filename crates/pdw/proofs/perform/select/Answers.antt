@@ -7,6 +7,7 @@ use Rattle.pdw_catalog.specs.declared.table.Column.{Column}
 use Rattle.pdw_catalog.specs.Table.{Row}
 use Rattle.pdw.specs.Plain.{plain_of}
 use Rattle.pdw.specs.Text.{header_text, row_text, count_text}
+use Rattle.pdw.specs.Trace.{prints}
 use Rattle.pdw.proofs.PlainLemmas.{SamePlain-refl}
 use Rattle.pdw.proofs.TextLemmas.{flat_map-flat_map, rows_text-parts}
 use Rattle.pdw.proofs.perform.select.Goals as goal
@@ -25,7 +26,7 @@ returns c =
       there = c.table-table.ensures.named;
       rows = rows;
       answer = IsPermutation-refl rows;
-      printed = rows_text-parts (map (λ column. column.name) table.columns) rows c.new-text.result.items c.push_header.new.text.items c.loop-bag.text.items c.push_count.new.text.items _ c.row_count.result
-          c.new-text.ensures.items header printed c.loop-bag.invariant c.row_count.ensures c.in_ok-push_count.ensures;
+      printed = ap prints (rows_text-parts (map (λ column. column.name) table.columns) rows c.new-text.result.items c.push_header.new.text.items c.loop-bag.text.items c.push_count.new.text.items _ c.row_count.result
+          c.new-text.ensures.items header printed c.loop-bag.invariant c.row_count.ensures c.in_ok-push_count.ensures);
       same = SamePlain-refl (plain_of c.args.appliance.now);
     }

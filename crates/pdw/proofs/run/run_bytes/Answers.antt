@@ -1,14 +1,15 @@
-use Rattle.std.proofs.Common.{ℕ, List, [], ◌∙◌, ap, refl, subst, inl, inr}
+use Rattle.std.proofs.Common.{ℕ, List, ◌∙◌, ap, refl, subst, inl, inr}
 use Rattle.pdw_outside.proofs.SinkLemmas.{adds_none}
 use Rattle.pdw.specs.Fault.{IsFault}
 use Rattle.pdw.specs.Output.{ScriptWrites, Stopped}
 use Rattle.pdw.specs.Refusal.{syntax_line}
 use Rattle.pdw.specs.Run.{EndsRefused}
 use Rattle.pdw.proofs.RunLemmas.{EndsBy-refused}
+use Rattle.pdw.specs.Trace.{nothing}
 use Rattle.pdw.proofs.run.run_bytes.Goals as goal
 
 pub returns-in-Err-clause-lawful : goal.returns-in-Err-clause-lawful
-returns-in-Err-clause-lawful g c = (Stopped, [], refl, inr (inr (inr (refl, refl))), adds_none (g.S.Sink.written c.args.out.now))
+returns-in-Err-clause-lawful g c = (Stopped, nothing, refl, inr (inr (inr (refl, refl))), adds_none (g.S.Sink.written c.args.out.now))
 
 pub returns-in-Ok-syntax-clause-lawful : goal.returns-in-Ok-syntax-clause-lawful
 returns-in-Ok-syntax-clause-lawful g c =
@@ -22,7 +23,7 @@ returns-in-Ok-syntax-clause-lawful g c =
     (λ end out ends. inr (inl (c.requires, at, fault, ends)))
 
 pub returns-in-Err-syntax-clause-lawful : goal.returns-in-Err-syntax-clause-lawful
-returns-in-Err-syntax-clause-lawful g c = (Stopped, [], refl, inr (inr (inr (refl, refl))), adds_none (g.S.Sink.written c.args.out.now))
+returns-in-Err-syntax-clause-lawful g c = (Stopped, nothing, refl, inr (inr (inr (refl, refl))), adds_none (g.S.Sink.written c.args.out.now))
 
 pub returns-in-Err-Memory-clause-lawful : goal.returns-in-Err-Memory-clause-lawful
-returns-in-Err-Memory-clause-lawful g c = (Stopped, [], refl, inr (inr (inr (refl, refl))), adds_none (g.S.Sink.written c.args.out.now))
+returns-in-Err-Memory-clause-lawful g c = (Stopped, nothing, refl, inr (inr (inr (refl, refl))), adds_none (g.S.Sink.written c.args.out.now))

@@ -1,4 +1,4 @@
-use Rattle.std.proofs.Common.{ℕ, List, [], ◌∙◌, Err, ap, refl, sym, subst, inl, inr}
+use Rattle.std.proofs.Common.{ℕ, List, ◌∙◌, Err, ap, refl, sym, subst, inl, inr}
 use Rattle.pdw_outside.proofs.SinkLemmas.{adds_none}
 use Rattle.pdw_outside.specs.Faults.{Rose}
 use Rattle.pdw_outside.specs.Whole.{IsContent, IsLongerThan, SameUnlessFailed}
@@ -8,6 +8,7 @@ use Rattle.pdw.specs.Output.{Held, Outputs, ScriptWrites, Stopped, Tells, Unread
 use Rattle.pdw.specs.Refusal.{long_script_line}
 use Rattle.pdw.specs.Run.{EndsBy, EndsRefused}
 use Rattle.pdw.proofs.RunLemmas.{EndsBy-refused, some_content}
+use Rattle.pdw.specs.Trace.{nothing}
 use Rattle.pdw.proofs.run.run_script.Goals as goal
 
 pub returns-in-Ok-clause-lawful : goal.returns-in-Ok-clause-lawful
@@ -40,14 +41,14 @@ returns-in-Err-Failed-clause-lawful g c =
     let before = g.F.Files.faults c.args.files.now in
     let after = g.F.Files.faults c.read_whole.new.files in
     let rose = subst (λ (name : List ℕ). Rose (before name) (after name)) c.text.ensures (c.in-Err-Failed.ensures.failed (ap Err c.in-Err-Failed.field-0-is)) in
-    (Unread c.args.name.now, [], (c.args.name.now, refl, rose), inr (refl, refl), adds_none (g.S.Sink.written c.args.out.now))
+    (Unread c.args.name.now, nothing, (c.args.name.now, refl, rose), inr (refl, refl), adds_none (g.S.Sink.written c.args.out.now))
 
 pub returns-in-Err-clause-lawful : goal.returns-in-Err-clause-lawful
 returns-in-Err-clause-lawful g c =
     let content = some_content (g.F.Files.bytes c.args.files.now c.args.name.now) in
-    (Stopped, [], refl, inl (content.0, content.1, inr (inr (inr (refl, refl)))), adds_none (g.S.Sink.written c.args.out.now))
+    (Stopped, nothing, refl, inl (content.0, content.1, inr (inr (inr (refl, refl)))), adds_none (g.S.Sink.written c.args.out.now))
 
 pub returns-in-Err-Memory-clause-lawful : goal.returns-in-Err-Memory-clause-lawful
 returns-in-Err-Memory-clause-lawful g c =
     let content = some_content (g.F.Files.bytes c.args.files.now c.args.name.now) in
-    (Stopped, [], refl, inl (content.0, content.1, inr (inr (inr (refl, refl)))), adds_none (g.S.Sink.written c.args.out.now))
+    (Stopped, nothing, refl, inl (content.0, content.1, inr (inr (inr (refl, refl)))), adds_none (g.S.Sink.written c.args.out.now))

@@ -1,11 +1,12 @@
-use Rattle.std.proofs.Common.{◌≡◌, ℕ, ◌+◌, ◌++◌, ◌∙◌, List, [], drop, refl, sym, subst}
-use Rattle.std.proofs.lemmas.List.{append-nil, drop_all}
-use Rattle.pdw_outside.proofs.SinkLemmas.{adds_both}
+use Rattle.std.proofs.Common.{◌≡◌, ℕ, ◌+◌, ◌∙◌, List, drop, refl, sym, subst}
+use Rattle.std.proofs.lemmas.List.{drop_all}
+use Rattle.pdw_outside.proofs.SinkLemmas.{adds_both, adds_none}
 use Rattle.pdw_outside.specs.Sink.{Adds}
 use Rattle.pdw.specs.Output.{CountsWriting, EndsIn, Finished, Gives, Held, SameReading, Writes}
 use Rattle.pdw.specs.Plain.{plain_of}
 use Rattle.pdw.specs.Run.{CanRun, EndsBy}
-use Rattle.pdw.proofs.RunLemmas.{CanRun-here, CanRun-rest, Steps-ended, Writes-end, Writes-more}
+use Rattle.pdw.proofs.RunLemmas.{CanRun-here, CanRun-rest, Steps-ended, Writes-end, Writes-more, followed_by-nothing}
+use Rattle.pdw.specs.Trace.{Trace, followed_by, nothing}
 use Rattle.pdw.proofs.step.run_statements.Goals as goal
 
 pub returns-in_default : goal.returns-in_default
@@ -22,10 +23,10 @@ returns-in_default g c =
     record {
       lawful = (
         here.0,
-        inv.done ++ here.1,
+        followed_by inv.done here.1,
         here.2,
         Writes-end c.args.statements.now c.loop-place.place statement c.loop-place-test.true c.index-statements-place.is held (plain_of c.args.appliance.now) state c.args.statements.now inv.done here.1 here.0 inv.so_far here.3,
-        adds_both _ _ _ inv.done here.1 inv.added here.4,
+        adds_both _ _ _ inv.done.text here.1.text inv.added here.4,
       );
       reading = subst (λ (counts : List ℕ → ℕ). SameReading c.step.result counts after) inv.reading c.step.ensures.reading;
       writing = subst (λ (count : ℕ). CountsWriting c.step.result count (g.S.Sink.faults c.step.new.out)) inv.writing c.step.ensures.writing;
@@ -40,12 +41,12 @@ loop-place-preserved g c =
     let next = plain_of c.step.new.appliance in
     let statement = c.index-statements-place.result in
     let statements = c.args.statements.now in
-    let step = subst (λ (told : Held). (text : List ℕ) × Gives told state statement text next × Adds (g.S.Sink.written c.loop-place.out) (g.S.Sink.written c.step.new.out) text) inv.bytes c.in-Done.ensures.steps in
+    let step = subst (λ (told : Held). (trace : Trace) × Gives told state statement trace next × Adds (g.S.Sink.written c.loop-place.out) (g.S.Sink.written c.step.new.out) trace.text) inv.bytes c.in-Done.ensures.steps in
     record {
       can = CanRun-rest held state next statement (drop (c.loop-place.place + 1) statements) step.0
           (CanRun-here statements c.loop-place.place statement c.loop-place-test.true c.index-statements-place.is c.loop-place.appliance.tables inv.can) step.1;
-      done = inv.done ++ step.0;
-      added = adds_both _ _ _ inv.done step.0 inv.added step.2;
+      done = followed_by inv.done step.0;
+      added = adds_both _ _ _ inv.done.text step.0.text inv.added step.2;
       so_far = Writes-more statements c.loop-place.place statement c.loop-place-test.true c.index-statements-place.is held (plain_of c.args.appliance.now) state next statements inv.done step.0 inv.so_far step.1;
       reading = c.in-Done.ensures.reading ∙ inv.reading;
       bytes = c.in-Done.ensures.bytes ∙ inv.bytes;
@@ -57,5 +58,16 @@ returns-clause-lawful g c =
     let inv = c.loop-place.invariant in
     let held = g.F.Files.bytes c.args.files.now in
     let none = drop_all c.loop-place.place c.args.statements.now c.loop-place-test.false in
-    let all = inv.so_far Finished [] (subst (λ left. Writes held (c.loop-place.place + 1) (plain_of c.loop-place.appliance) left Finished []) (sym none) refl) in
-    (Finished, inv.done, refl, rw append-nil at all, inv.added)
+    let all = inv.so_far Finished nothing (subst (λ left. Writes held (c.loop-place.place + 1) (plain_of c.loop-place.appliance) left Finished nothing) (sym none) refl) in
+    (Finished, inv.done, refl, subst (Writes held 1 (plain_of c.args.appliance.now) c.args.statements.now Finished) (followed_by-nothing inv.done) all, inv.added)
+
+pub loop-place-init : goal.loop-place-init
+loop-place-init g c = record {
+  can = c.requires;
+  done = nothing;
+  added = adds_none (g.S.Sink.written c.args.out.now);
+  so_far = λ end rest all. all;
+  reading = refl;
+  bytes = refl;
+  writing = refl;
+}
