@@ -9,6 +9,8 @@ mod statement;
 pub mod status;
 mod step;
 mod stop;
+#[cfg(test)]
+mod tests;
 mod text;
 mod words;
 
