@@ -3,7 +3,7 @@ use Rattle.std.proofs.Common.{◌≡◌, ◌⊎◌, ℕ, List, refl, inl, inr, s
 use Rattle.pdw_outside.specs.Faults.{Rose}
 use Rattle.pdw.specs.declared.status.Status.{Status}
 use Rattle.pdw.specs.declared.status.Status.TheVariants as status
-use Rattle.pdw.specs.Output.{CountsWriting, End, Unread, Refused, Held, MeetsNoFault, Outputs, Tells}
+use Rattle.pdw.specs.Output.{CountsWriting, End, Held, MeetsNoFault, Outputs, Tells}
 use Rattle.pdw.specs.Trace.{Trace}
 use Rattle.pdw.specs.Words.{AskRun}
 

@@ -1,14 +1,14 @@
 -- Statements that are executed one after the other.
-use Rattle.std.proofs.Common.{◌≡◌, ℕ, ◌+◌, ◌<◌, List, [], ◌∷◌, length, drop, get_or, refl, sym, ap, ◌∙◌, subst, inl, inr, append_assoc, append-nil, Option, None, Some}
+use Rattle.std.proofs.Common.{◌≡◌, ℕ, ◌+◌, ◌<◌, List, [], ◌∷◌, length, drop, get_or, refl, sym, ap, subst, inl, inr, append_assoc, append-nil, Option, None, Some}
 use Rattle.pdw_base.proofs.Steps.{drop-one_more}
-use Rattle.pdw_catalog.specs.Appliance.{CanCreate, Contents, HasTable}
+use Rattle.pdw_catalog.specs.Appliance.{Contents}
 use Rattle.pdw_catalog.specs.Catalog.{Tables}
 use Rattle.pdw_outside.specs.Whole.{IsContent}
 use Rattle.pdw.specs.declared.statement.Statement.{Statement}
 use Rattle.pdw.specs.declared.statement.Statement.TheVariants.{Create, Load, Select}
 use Rattle.pdw.specs.Output.{End, Cut, Refused, Stopped, EndsIn, EndsLine, Gives, Held, Refuses, Writes}
 use Rattle.pdw.specs.Perform.{CanPerform}
-use Rattle.pdw.specs.Plain.{Plain, plain_of}
+use Rattle.pdw.specs.Plain.{Plain}
 use Rattle.pdw.specs.Trace.{Trace, cut_at, followed_by, nothing, prints}
 use Rattle.pdw.specs.declared.status.Status.{Status}
 use Rattle.pdw.specs.declared.status.Status.TheVariants as status
@@ -45,8 +45,8 @@ module _ (statements : List Statement) (place : ℕ) (statement : Statement) (wi
       → (end : End) (rest : Trace) → Writes held (place + 1 + 1) next (drop (place + 1) statements) end rest → Writes held 1 first all end (followed_by (followed_by done trace) rest)
   Writes-more held first state next all done trace before gives end rest after =
       subst (Writes held 1 first all end) (sym (followed_by-assoc done trace rest))
-          (before end (followed_by trace rest) (subst (λ left. Writes held (place + 1) state left end (followed_by trace rest)) (sym (drop-one_more statements place statement within item))
-              (inr (trace, rest, next, gives, after, refl))))
+      (before end (followed_by trace rest) (subst (λ left. Writes held (place + 1) state left end (followed_by trace rest)) (sym (drop-one_more statements place statement within item))
+      (inr (trace, rest, next, gives, after, refl))))
 
   -- the end at one statement is the end of them all
   pub Writes-end : (held : Held) (first state : Plain) (all : List Statement) (done out : Trace) (end : End)

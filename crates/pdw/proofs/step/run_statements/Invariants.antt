@@ -1,4 +1,4 @@
-use Rattle.std.proofs.Common.{◌≡◌, ℕ, ◌+◌, ◌++◌, List, drop}
+use Rattle.std.proofs.Common.{◌≡◌, ◌+◌, drop}
 use Rattle.pdw_outside.specs.Sink.{Adds}
 use Rattle.pdw.specs.Output.{End, Writes}
 use Rattle.pdw.specs.Plain.{plain_of}

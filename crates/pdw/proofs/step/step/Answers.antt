@@ -1,7 +1,6 @@
 use Rattle.std.proofs.Common.{ℕ, List, ◌∙◌, ap, inl, refl, subst, take}
 use Rattle.pdw_outside.proofs.SinkLemmas.{adds_none}
-use Rattle.pdw_outside.specs.Faults.{Rose}
-use Rattle.pdw.specs.Output.{End, Cut, Unread, Wants}
+use Rattle.pdw.specs.Output.{Cut, Unread}
 use Rattle.pdw.specs.Perform.{Stops}
 use Rattle.pdw.specs.Plain.{plain_of}
 use Rattle.pdw.specs.Trace.{cut_at, nothing, prints}
@@ -31,5 +30,5 @@ returns-in-Ok-line-clause-steps g c =
     let line = refusal_line c.args.k c.in-Err-Refused.refusal in
     let stop = subst (Stops held before after state c.args.statement.now) c.in-Err-Refused.field-0-is c.in-Err-Refused.ensures.stop in
     let ends = subst (λ (text : List ℕ). EndsRefused c.refuse.result (g.S.Sink.written c.args.out.now) (g.S.Sink.written c.refuse.new.out) (g.S.Sink.faults c.args.out.now) (g.S.Sink.faults c.refuse.new.out) text)
-        (c.as_str.ensures.value ∙ c.in-Ok-line.ensures ∙ ap (refusal_line c.args.k) c.in-Err-Refused.refusal-is) c.refuse.ensures in
+    (c.as_str.ensures.value ∙ c.in-Ok-line.ensures ∙ ap (refusal_line c.args.k) c.in-Err-Refused.refusal-is) c.refuse.ensures in
     Steps-refused held c.args.k state c.args.statement.now (plain_of c.perform.new.appliance) before after (g.S.Sink.written c.args.out.now) (g.S.Sink.written c.refuse.new.out) _ _ line c.refuse.result (stop.1 c.args.k) ends
