@@ -9,3 +9,4 @@ pub mod LoadLemmas
 pub mod ScriptLemmas
 pub mod RunLemmas
 pub mod CompleteLemmas
+pub mod WholeLemmas

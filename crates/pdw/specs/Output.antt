@@ -1,5 +1,5 @@
 -- The lawful outputs of a script.
-use Rattle.std.specs.Prelude.{◌≡◌, ◌⊎◌, ℕ, ◌+◌, ◌≤◌, ◌<◌, List, [], ◌∷◌, length, map, codes, Option, Some}
+use Rattle.std.specs.Prelude.{◌≡◌, ◌⊎◌, ℕ, ◌+◌, ◌≤◌, ◌<◌, List, [], ◌∷◌, ◌++◌, length, map, codes, Option, Some}
 use Rattle.std.specs.List.Sorted.{IsPermutation}
 use Rattle.pdw_catalog.specs.declared.table.Table.{Table}
 use Rattle.pdw_catalog.specs.Table.{Row, most_rows}
@@ -187,3 +187,18 @@ abbrev pub MeetsNoFault : Held → (List ℕ → ℕ) → (List ℕ → ℕ) →
 MeetsNoFault held before after words =
     (nodes : ℕ) (script : List ℕ) → AskRun words nodes script
     → ((out : Trace) → ¬ (Outputs held nodes script Refused out)) × ((file : List ℕ) → MayStopAt held nodes script file → ¬ (Rose (before file) (after file)))
+
+-- ---- laws
+
+-- the output is whole: every statement was executed, or the line of a refusal ends it
+abbrev pub IsWhole : End → Type 0
+IsWhole Finished = Unit {0}
+IsWhole Refused = Unit {0}
+IsWhole (Unread file) = ⊥
+IsWhole Cut = ⊥
+IsWhole Stopped = ⊥
+
+-- the text begins a whole lawful output of the script of a name
+abbrev pub BeginsOutput : Held → ℕ → List ℕ → List ℕ → Type 0
+BeginsOutput held nodes script text =
+    (end : End) × (whole : Trace) × (more : List ℕ) × IsWhole end × Outputs held nodes script end whole × (whole.text ≡ text ++ more)

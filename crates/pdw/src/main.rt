@@ -1,6 +1,7 @@
 //! The appliance as a program: a script of statements in, rows out.
 #![tactic(auto)]
 
+pub mod laws;
 mod perform;
 mod refusal;
 pub mod run;
