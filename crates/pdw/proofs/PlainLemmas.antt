@@ -1,12 +1,12 @@
 -- How the plain state follows the appliance.
-use Rattle.std.proofs.Common.{◌≡◌, ℕ, Bool, true, false, List, [], ◌∷◌, ◌++◌, refl, sym, ap, ◌∙◌, subst, if◌then◌else◌}
+use Rattle.std.proofs.Common.{◌≡◌, ℕ, Bool, true, false, List, ◌++◌, refl, sym, subst, if◌then◌else◌}
 use Rattle.std.specs.Str.{bytes_eq}
 use Rattle.std.proofs.lemmas.Slice.Eq.{bytes_eq-Decides}
 use Rattle.pdw_base.specs.SameBag.{SameBag}
 use Rattle.pdw_base.proofs.SameBagLaws.{SameBag-refl, SameBag-≡}
 use Rattle.pdw_catalog.specs.Table.{Row}
 use Rattle.pdw_catalog.specs.Catalog.{table_named}
-use Rattle.pdw_catalog.specs.Appliance.{Contents, GainsRows, whole_of, whole_in, bags_of}
+use Rattle.pdw_catalog.specs.Appliance.{Contents, GainsRows, whole_of, whole_in}
 use Rattle.pdw.specs.Plain.{Plain, SamePlain, plain_of, with_rows}
 
 -- rows that a table gains at the nodes it gains as a whole

@@ -1,14 +1,14 @@
 -- Statements that are executed one after the other.
-use Rattle.std.proofs.Common.{◌≡◌, ℕ, ◌+◌, ◌<◌, List, [], ◌∷◌, ◌++◌, length, drop, get_or, refl, sym, ap, ◌∙◌, subst, inl, inr, append_assoc, take, Option, None, Some}
+use Rattle.std.proofs.Common.{◌≡◌, ℕ, ◌+◌, ◌<◌, List, [], ◌∷◌, ◌++◌, length, drop, get_or, refl, sym, subst, inl, inr, append_assoc, take, Option, None, Some}
 use Rattle.pdw_base.proofs.Steps.{drop-one_more}
-use Rattle.pdw_catalog.specs.Appliance.{CanCreate, Contents, HasTable}
+use Rattle.pdw_catalog.specs.Appliance.{Contents}
 use Rattle.pdw_catalog.specs.Catalog.{Tables}
 use Rattle.pdw_outside.specs.Whole.{IsContent}
 use Rattle.pdw.specs.declared.statement.Statement.{Statement}
 use Rattle.pdw.specs.declared.statement.Statement.TheVariants.{Create, Load, Select}
 use Rattle.pdw.specs.Output.{End, Cut, Refused, Stopped, EndsIn, EndsLine, Gives, Held, Writes}
 use Rattle.pdw.specs.Perform.{CanPerform}
-use Rattle.pdw.specs.Plain.{Plain, plain_of}
+use Rattle.pdw.specs.Plain.{Plain}
 use Rattle.pdw.specs.declared.status.Status.{Status}
 use Rattle.pdw.specs.declared.status.Status.TheVariants as status
 use Rattle.pdw.specs.Run.{CanRun, EndsBy, EndsRefused, Steps}

@@ -1,7 +1,6 @@
 -- The lawful outputs of a script.
 use Rattle.std.specs.Prelude.{◌≡◌, ◌⊎◌, ℕ, ◌+◌, ◌≤◌, ◌<◌, List, [], ◌∷◌, ◌++◌, length, map, take, codes, Option, Some}
 use Rattle.std.specs.List.Sorted.{IsPermutation}
-use Rattle.pdw_base.specs.declared.text.Str.{Str}
 use Rattle.pdw_catalog.specs.declared.table.Table.{Table}
 use Rattle.pdw_catalog.specs.Table.{Row, most_rows}
 use Rattle.pdw_catalog.specs.Catalog.{table_named}

@@ -1,8 +1,6 @@
-use Rattle.std.proofs.Common.{◌≡◌, ◌+◌, ◌≤◌, ◌∙◌, ap, sym, subst, length, arith}
+use Rattle.std.proofs.Common.{◌≡◌, ◌∙◌, ap, subst, length, arith}
 use Rattle.std.proofs.lemmas.List.{length-map}
-use Rattle.pdw_load.specs.Records.{records_of, row_of, rows_of}
-use Rattle.pdw_catalog.specs.Appliance.{whole_of}
-use Rattle.pdw_catalog.specs.Table.{most_rows}
+use Rattle.pdw_load.specs.Records.{records_of}
 use Rattle.pdw.specs.Plain.{SamePlain, plain_of, with_rows}
 use Rattle.pdw.specs.Text.{loaded_text}
 use Rattle.pdw.proofs.PlainLemmas.{SamePlain-gained}

@@ -1,4 +1,4 @@
-use Rattle.std.proofs.Common.{◌≡◌, ◌++◌, ◌∙◌, [], List, ap, sym, length, take, map, arith, append_assoc}
+use Rattle.std.proofs.Common.{◌≡◌, ◌++◌, ◌∙◌, List, ap, sym, take, map, arith}
 use Rattle.std.specs.List.{flat_map}
 use Rattle.std.proofs.lemmas.List.{take_all}
 use Rattle.std.proofs.lemmas.List.Sorted.{IsPermutation-refl}
@@ -6,7 +6,7 @@ use Rattle.pdw_catalog.specs.Appliance.{whole_of}
 use Rattle.pdw_catalog.specs.declared.table.Column.{Column}
 use Rattle.pdw_catalog.specs.Table.{Row}
 use Rattle.pdw.specs.Plain.{plain_of}
-use Rattle.pdw.specs.Text.{header_text, row_text, count_text}
+use Rattle.pdw.specs.Text.{header_text, row_text}
 use Rattle.pdw.proofs.PlainLemmas.{SamePlain-refl}
 use Rattle.pdw.proofs.TextLemmas.{flat_map-flat_map, rows_text-parts}
 use Rattle.pdw.proofs.perform.select.Goals as goal

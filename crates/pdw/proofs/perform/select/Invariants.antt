@@ -1,6 +1,6 @@
-use Rattle.std.proofs.Common.{◌≡◌, ◌++◌, map, take}
+use Rattle.std.proofs.Common.{◌≡◌, ◌++◌, take}
 use Rattle.std.specs.List.{flat_map}
-use Rattle.pdw.specs.Text.{header_text, row_text}
+use Rattle.pdw.specs.Text.{row_text}
 use Rattle.pdw.proofs.perform.select.Given as goal
 
 abbrev pub invariant-loop-bag : goal.invariant-loop-bag

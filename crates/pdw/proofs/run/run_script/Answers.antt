@@ -6,7 +6,7 @@ use Rattle.pdw_outside.specs.declared.reading.ReadStop.{ReadStop}
 use Rattle.pdw.specs.declared.refusal.TheConstants.{MOST_SCRIPT_BYTES}
 use Rattle.pdw.specs.Output.{Held, Outputs, ScriptWrites, Stopped, Tells, Unread}
 use Rattle.pdw.specs.Refusal.{long_script_line}
-use Rattle.pdw.specs.Run.{EndsBy, EndsRefused}
+use Rattle.pdw.specs.Run.{EndsRefused}
 use Rattle.pdw.proofs.RunLemmas.{EndsBy-refused, some_content}
 use Rattle.pdw.proofs.run.run_script.Goals as goal
 

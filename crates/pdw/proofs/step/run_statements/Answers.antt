@@ -1,10 +1,10 @@
-use Rattle.std.proofs.Common.{◌≡◌, ℕ, ◌+◌, ◌++◌, ◌∙◌, List, [], drop, refl, sym, subst}
+use Rattle.std.proofs.Common.{ℕ, ◌+◌, ◌++◌, ◌∙◌, List, [], drop, refl, sym, subst}
 use Rattle.std.proofs.lemmas.List.{append-nil, drop_all}
 use Rattle.pdw_outside.proofs.SinkLemmas.{adds_both}
 use Rattle.pdw_outside.specs.Sink.{Adds}
 use Rattle.pdw.specs.Output.{CountsWriting, EndsIn, Finished, Gives, Held, SameReading, Writes}
 use Rattle.pdw.specs.Plain.{plain_of}
-use Rattle.pdw.specs.Run.{CanRun, EndsBy}
+use Rattle.pdw.specs.Run.{EndsBy}
 use Rattle.pdw.proofs.RunLemmas.{CanRun-here, CanRun-rest, Steps-ended, Writes-end, Writes-more}
 use Rattle.pdw.proofs.step.run_statements.Goals as goal
 

@@ -1,7 +1,6 @@
 use Rattle.std.proofs.Common.{[], refl, subst}
 use Rattle.pdw_outside.proofs.SinkLemmas.{adds_none}
-use Rattle.pdw_outside.specs.Faults.{Rose}
-use Rattle.pdw.specs.Output.{End, Unread, Wants}
+use Rattle.pdw.specs.Output.{Unread}
 use Rattle.pdw.specs.Perform.{Stops}
 use Rattle.pdw.specs.Plain.{plain_of}
 use Rattle.pdw.proofs.step.step.Goals as goal

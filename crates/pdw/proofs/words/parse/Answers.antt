@@ -1,4 +1,4 @@
-use Rattle.std.proofs.Common.{◌≡◌, ℕ, List, ap, ◌∙◌, ◌∷◌, [], rules}
+use Rattle.std.proofs.Common.{◌≡◌, ◌∙◌, ◌∷◌, [], rules}
 use Rattle.std.specs.Prelude.{codes}
 use Rattle.pdw.proofs.WordLemmas.{three_items}
 use Rattle.pdw.proofs.words.parse.Goals as goal
