@@ -1,6 +1,6 @@
 -- Every statement can be executed or is refused, so what was written can be gone on with to a whole output.
-use Rattle.std.proofs.Common.{◌≡◌, ◌⊎◌, ℕ, ◌+◌, ◌<◌, ◌≤◌, List, [], ◌∷◌, ◌++◌, length, map, take, drop, codes, refl, sym, ap, ◌∙◌, subst, inl, inr, arith, append_assoc, Option, None, Some, IsSome, cond, lit<}
-use Rattle.std.proofs.lemmas.List.{append-nil, take-append-drop}
+use Rattle.std.proofs.Common.{◌≡◌, ◌⊎◌, ℕ, ◌+◌, ◌≤◌, List, [], ◌∷◌, ◌++◌, length, map, take, drop, codes, refl, sym, ap, ◌∙◌, subst, inl, inr, arith, append_assoc, Option, None, Some, IsSome, cond, lit<}
+use Rattle.std.proofs.lemmas.List.{take-append-drop}
 use Rattle.std.proofs.lemmas.List.Sorted.{IsPermutation-refl}
 use native.Mathlib.Decide.{dec_le}
 use Rattle.std.specs.Cmp.Lexicographic.{nat_list_eq_equiv}
@@ -13,10 +13,10 @@ use Rattle.pdw_outside.specs.Whole.{IsContent}
 use Rattle.pdw.specs.declared.refusal.TheConstants.{MOST_FILE_BYTES}
 use Rattle.pdw.specs.declared.statement.Statement.{Statement}
 use Rattle.pdw.specs.declared.statement.Statement.TheVariants.{Create, Load, Select}
-use Rattle.pdw.specs.Output.{BeginsOutput, Cut, End, EndsIn, EndsLine, Finished, Gives, Held, IsWhole, Outputs, Refused, Refuses, ScriptWrites, Writes, statements_of}
+use Rattle.pdw.specs.Output.{BeginsOutput, Cut, End, EndsLine, Finished, Gives, Held, IsWhole, Outputs, Refused, Refuses, ScriptWrites, Writes, statements_of}
 use Rattle.pdw.specs.Plain.{Plain, start, with_rows, with_table}
 use Rattle.pdw.specs.Refusal.{fault_line, limit_line, long_script_line, syntax_line}
-use Rattle.pdw.specs.Script.{CreatesTable, Spells}
+use Rattle.pdw.specs.Script.{CreatesTable}
 use Rattle.pdw.specs.Run.{CanRun}
 use Rattle.pdw.specs.Text.{done_text, loaded_text, rows_text}
 use Rattle.pdw.specs.Trace.{Trace, cut_at, followed_by, nothing, prints}

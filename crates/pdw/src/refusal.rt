@@ -50,7 +50,7 @@ fn fault(alloc: Global, found: LoadError) -> Result<String, NoMemory>
         LoadError::LongText { rec, field } => format!(in alloc; "LONGTEXT {rec} {field}")?,
         LoadError::NullField { rec, field } => format!(in alloc; "NULLFIELD {rec} {field}")?,
         LoadError::NotUtf8 { rec, field } => format!(in alloc; "NOTUTF8 {rec} {field}")?,
-        LoadError::Memory => String::new(alloc),
+        LoadError::Memory => unreachable!(),
     })
 }
 
