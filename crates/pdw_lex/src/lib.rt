@@ -20,3 +20,6 @@ pub use lex_error::LexError;
 pub use lexer::lex;
 pub use sign::Sign;
 pub use token::{Lexeme, Token};
+
+#[cfg(test)]
+mod tests;

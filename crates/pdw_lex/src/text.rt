@@ -1,5 +1,4 @@
 ghost use Rattle.std.specs.Prelude.{◌≡◌, IfOk, IfErr};
-ghost use Rattle.std.specs.Str.{IsUtf8};
 ghost use Rattle.pdw_lex.specs.declared.lex_error.LexError.TheVariants.{Memory};
 
 use crate::LexError;
@@ -13,6 +12,7 @@ pub(crate) fn text_from(alloc: Global, bytes: &[u8]) -> Result<Str, LexError>
 {
     match Str::from_bytes(alloc, bytes)? {
         Some(text) => Ok(text),
+        // A word is ASCII, and what stands between quotes of a script in UTF-8 is UTF-8: this does not come.
         None => Err(LexError::Memory),
     }
 }
