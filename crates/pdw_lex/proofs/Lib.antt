@@ -1,0 +1,7 @@
+pub mod Runs
+pub mod PieceLemmas
+pub mod NumberLemmas
+pub mod QuotedLemmas
+pub mod ReadLemmas
+pub mod Reader
+pub mod UniqueLemmas

@@ -1,0 +1,8 @@
+use Rattle.std.proofs.Common.{refl, arith}
+use Rattle.pdw_lex.proofs.QuotedLemmas.{long_text}
+use Rattle.pdw_lex.proofs.quoted.quoted.Goals as goal
+
+pub returns-then-len-gt-MOST_TEXT_BYTES-clause-fault : goal.returns-then-len-gt-MOST_TEXT_BYTES-clause-fault
+returns-then-len-gt-MOST_TEXT_BYTES-clause-fault c =
+    let found = c.in_ok-bytes.ensures.text in
+    (refl, long_text c.args.left.now c.in_ok-bytes.bytes.items c.in_ok-bytes.length found.1 found.2 (omega arith))

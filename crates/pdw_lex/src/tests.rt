@@ -1,0 +1,127 @@
+use crate::{LexError, Lexeme, Token, lex};
+use std::alloc::Global;
+use std::test::Fail;
+
+fn shown_token(alloc: Global, token: &Token) -> Result<String, Fail> {
+    let (from, to) = (token.from, token.to);
+    match &token.lexeme {
+        Lexeme::Name(name) => Ok(format!(in alloc; "{from}-{to} name {}", name.text())?),
+        Lexeme::Key(keyword) => Ok(format!(in alloc; "{from}-{to} {keyword:?}")?),
+        Lexeme::Number(number) => Ok(format!(in alloc; "{from}-{to} number {number}")?),
+        Lexeme::Text(text) => Ok(format!(in alloc; "{from}-{to} text {}", text.text())?),
+        Lexeme::Sign(sign) => Ok(format!(in alloc; "{from}-{to} {sign:?}")?),
+    }
+}
+
+// The tokens with a bar after each, or the error.
+fn shown(alloc: Global, script: &[u8]) -> Result<String, Fail> {
+    if script.len() > 1_048_576 {
+        return Ok(format!(in alloc; "too long")?);
+    }
+    match lex(alloc, script) {
+        Ok(tokens) => {
+            let mut text = String::new(alloc);
+            for token in &tokens {
+                text.push_str(shown_token(alloc, token)?.as_str())?;
+                text.push_str("|")?;
+            }
+            Ok(text)
+        }
+        Err(error) => Ok(format!(in alloc; "{error}")?),
+    }
+}
+
+const CASES: [(&[u8], &str); 30] = [
+    (b"", ""),
+    (b" \t\r\n", ""),
+    (
+        b"SELECT 9223372036854775808 FROM t;",
+        "the number at byte 7 is too great",
+    ),
+    (b"9223372036854775807", "0-19 number 9223372036854775807|"),
+    (b"00", "0-2 number 0|"),
+    (b"1a", "0-1 number 1|1-2 name a|"),
+    (b"a1", "0-2 name a1|"),
+    (b"T_9 tEXT", "0-3 name t_9|4-8 name text|"),
+    (b"a.b", "0-1 name a|1-2 Dot|2-3 name b|"),
+    (b"<>", "0-2 NotEqual|"),
+    (b"< >", "0-1 Less|2-3 Greater|"),
+    (
+        b"<<=>=>",
+        "0-1 Less|1-3 LessEqual|3-5 GreaterEqual|5-6 Greater|",
+    ),
+    (
+        b"(),;.*+/%=",
+        "0-1 ParenOpen|1-2 ParenClose|2-3 Comma|3-4 Semicolon|4-5 Dot|5-6 Star|6-7 Plus|7-8 Slash|8-9 Percent|9-10 Equal|",
+    ),
+    (b"- -", "0-1 Minus|2-3 Minus|"),
+    (b"a-1", "0-1 name a|1-2 Minus|2-3 number 1|"),
+    (b"a -- b", "0-1 name a|"),
+    (b"--\ra\nb", "5-6 name b|"),
+    (b"--x\n--", ""),
+    (b"'it''s'", "0-7 text it's|"),
+    (b"''", "0-2 text |"),
+    (b"''''", "0-4 text '|"),
+    (b"'a' 'b'", "0-3 text a|4-7 text b|"),
+    (b"a 'b '' c", "the text at byte 2 has no end"),
+    (b"'a' 'b ''", "the text at byte 4 has no end"),
+    (b"a ? ?", "no token begins at byte 2"),
+    (b"?'", "no token begins at byte 0"),
+    (
+        b"99999999999999999999 99999999999999999999",
+        "the number at byte 0 is too great",
+    ),
+    (b"'\xC3\xA4' ?", "no token begins at byte 5"),
+    (b"a\xFF \xFF", "not UTF-8 at byte 1"),
+    (b"-- \xC3", "not UTF-8 at byte 3"),
+];
+
+#[test]
+fn scripts_have_their_tokens_or_first_fault(rt: HostRuntime) -> Result<(), Fail> {
+    let alloc = rt.alloc();
+    for (script, wanted) in CASES {
+        assert_eq!(rt; shown(alloc, script)?.as_str(), wanted);
+    }
+    Ok(())
+}
+
+const KEYWORDS: &[u8] =
+    b"All aND As Asc Between By Count Create Cross Desc Distinct Drop Except Exists False From Full Group Having In Inner Intersect Is Join Left Like Max Min Not Null On Or Order Outer Right Select Set Sum Table True Union Unknown Update Where With";
+
+#[test]
+fn keywords_are_known_in_any_case(rt: HostRuntime) -> Result<(), Fail> {
+    let alloc = rt.alloc();
+    if KEYWORDS.len() > 1_048_576 {
+        return Ok(());
+    }
+    let tokens = lex(alloc, KEYWORDS)?;
+    assert_eq!(rt; tokens.len(), 45);
+    for token in &tokens {
+        assert_eq!(rt; matches!(&token.lexeme, Lexeme::Key(_)), true);
+    }
+    Ok(())
+}
+
+// A text of so many bytes in quotes.
+fn long_text(alloc: Global, count: usize) -> Result<Vec<u8>, Fail> {
+    let mut script = Vec::new(alloc);
+    script.push(b'\'')?;
+    for _ in 0..count {
+        script.push(b'x')?;
+    }
+    script.push(b'\'')?;
+    Ok(script)
+}
+
+#[test]
+fn texts_have_at_most_1000_bytes(rt: HostRuntime) -> Result<(), Fail> {
+    let alloc = rt.alloc();
+    for (count, fault) in [(1_000, None), (1_001, Some(LexError::LongText { at: 0 }))] {
+        let script = long_text(alloc, count)?;
+        if script.len() > 1_048_576 {
+            return Ok(());
+        }
+        assert_eq!(rt; lex(alloc, &script).err(), fault);
+    }
+    Ok(())
+}
