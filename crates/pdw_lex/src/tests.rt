@@ -31,7 +31,7 @@ fn shown(alloc: Global, script: &[u8]) -> Result<String, Fail> {
     }
 }
 
-const CASES: [(&[u8], &str); 30] = [
+const CASES: [(&[u8], &str); 31] = [
     (b"", ""),
     (b" \t\r\n", ""),
     (
@@ -73,6 +73,7 @@ const CASES: [(&[u8], &str); 30] = [
     ),
     (b"'\xC3\xA4' ?", "no token begins at byte 5"),
     (b"a\xFF \xFF", "not UTF-8 at byte 1"),
+    (b"'\xFF'", "not UTF-8 at byte 1"),
     (b"-- \xC3", "not UTF-8 at byte 3"),
 ];
 
@@ -97,19 +98,31 @@ fn keywords_are_known_in_any_case(rt: HostRuntime) -> Result<(), Fail> {
     let tokens = lex(alloc, KEYWORDS)?;
     assert_eq!(rt; tokens.len(), 45);
     for token in &tokens {
-        assert_eq!(rt; matches!(&token.lexeme, Lexeme::Key(_)), true);
+        let Lexeme::Key(keyword) = &token.lexeme else {
+            assert!(rt; false, "a keyword is no name");
+            return Ok(());
+        };
+        let word = KEYWORDS
+            .get(token.from as usize..token.to as usize)
+            .ok_or("within the script")?;
+        let variant = format!(in alloc; "{keyword:?}")?;
+        let spelling = variant.as_bytes().strip_prefix(b"Kw").ok_or("Kw")?;
+        assert!(rt; spelling.eq_ignore_ascii_case(word), "{variant}");
     }
     Ok(())
 }
 
-// A text of so many bytes in quotes.
-fn long_text(alloc: Global, count: usize) -> Result<Vec<u8>, Fail> {
+// Two texts of so many bytes, each in quotes.
+fn two_texts(alloc: Global, count: usize) -> Result<Vec<u8>, Fail> {
     let mut script = Vec::new(alloc);
-    script.push(b'\'')?;
-    for _ in 0..count {
-        script.push(b'x')?;
+    for _ in 0..2 {
+        script.push(b'\'')?;
+        for _ in 0..count {
+            script.push(b'x')?;
+        }
+        script.push(b'\'')?;
+        script.push(b' ')?;
     }
-    script.push(b'\'')?;
     Ok(script)
 }
 
@@ -117,7 +130,7 @@ fn long_text(alloc: Global, count: usize) -> Result<Vec<u8>, Fail> {
 fn texts_have_at_most_1000_bytes(rt: HostRuntime) -> Result<(), Fail> {
     let alloc = rt.alloc();
     for (count, fault) in [(1_000, None), (1_001, Some(LexError::LongText { at: 0 }))] {
-        let script = long_text(alloc, count)?;
+        let script = two_texts(alloc, count)?;
         if script.len() > 1_048_576 {
             return Ok(());
         }
