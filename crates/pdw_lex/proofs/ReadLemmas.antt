@@ -10,6 +10,7 @@ use Rattle.pdw_lex.specs.declared.lex_error.LexError.{LexError}
 use Rattle.pdw_lex.specs.declared.lex_error.LexError.TheVariants.{NotUtf8, BadChar, OpenText, BigNumber, LongText, Memory}
 use Rattle.pdw_lex.specs.declared.token.Lexeme.{Lexeme}
 use Rattle.pdw_lex.specs.declared.token.Token.{Token}
+use Rattle.pdw_lex.proofs.Utf8Lemmas.{past_front}
 
 -- the bytes before this place are pieces, and these are the tokens among them
 pub record ReadTo (bytes : List ℕ) (at : ℕ) (tokens : List Token) : Type 0 where
@@ -18,10 +19,11 @@ pub record ReadTo (bytes : List ℕ) (at : ℕ) (tokens : List Token) : Type 0 w
   pub are : ArePieces pieces (drop at bytes)
   pub place : at ≡ length (joined pieces)
   pub within : at ≤ length bytes
+  pub utf8 : IsUtf8 (drop at bytes)
   pub tokens_are : tokens ≡ tokens_of 0 pieces
 
-pub read_none : (bytes : List ℕ) → ReadTo bytes 0 []
-read_none bytes = record { pieces = []; spelled = refl; are = tt; place = refl; within = omega arith; tokens_are = refl }
+pub read_none : (bytes : List ℕ) → IsUtf8 bytes → ReadTo bytes 0 []
+read_none bytes utf8 = record { pieces = []; spelled = refl; are = tt; place = refl; within = omega arith; utf8 = utf8; tokens_are = refl }
 
 joined_push : (ps : List Piece) (p : Piece) → joined (ps ++ (p ∷ [])) ≡ joined ps ++ p.spelling
 joined_push [] p = append-nil p.spelling
@@ -64,6 +66,7 @@ read_more bytes at n to tokens said read begins e =
       are = are_push read.pieces p (drop to bytes) before all;
       place = omega (arith, read.place);
       within = omega (arith, begins.within, length-drop at bytes, read.within);
+      utf8 = subst IsUtf8 rest_is (past_front (drop at bytes) said n begins read.utf8);
       tokens_are = ap (λ ts. ts ++ token_at at to said) read.tokens_are ∙ sym (tokens_push 0 read.pieces p at to (read.place ∙ sym (zero-add _)) (e ∙ ap (λ k. at + k) (sym long)));
     }
 

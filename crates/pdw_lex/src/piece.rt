@@ -1,5 +1,6 @@
 ghost use Rattle.std.specs.Prelude.{◌≡◌, ◌≢◌, ◌<◌, ◌++◌, take, codes, Some, None, length, false, IfOk, IfErr, MatchOption};
 ghost use Rattle.std.specs.List.{prefix_len};
+ghost use Rattle.std.specs.Str.{IsUtf8};
 ghost use Rattle.pdw_lex.specs.Bytes.{begins_with, is_in_line as line_byte};
 ghost use Rattle.pdw_lex.specs.Fault.{FaultsAt};
 ghost use Rattle.pdw_lex.specs.Piece.{BeginsPiece};
@@ -72,7 +73,8 @@ fn comment_or_sign(left: &[u8]) -> Option<Piece>
 
 /// The piece at the front of what is left of a script from the byte `at` on.
 pub(crate) fn first_piece(alloc: Global, left: &[u8], at: u32) -> Result<Piece, LexError>
-    requires { 0 < length left.now }
+    requires some { 0 < length left.now }
+    requires utf8 { IsUtf8 left.now }
     ensures piece { IfOk result (λ piece. BeginsPiece left.now piece.lexeme piece.length) }
     ensures fault { IfErr result (λ e. FaultsAt e at left.now) }
 {

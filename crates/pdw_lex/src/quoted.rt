@@ -1,4 +1,5 @@
 ghost use Rattle.std.specs.Prelude.{◌≡◌, ◌≤◌, true, false, IfOk, IfErr, length, take, drop};
+ghost use Rattle.std.specs.Str.{IsUtf8};
 ghost use Rattle.pdw_lex.specs.Bytes.{begins_with, is_quote as quote};
 ghost use Rattle.pdw_lex.specs.Fault.{FaultsAt};
 ghost use Rattle.pdw_lex.specs.Piece.{BeginsPiece, quoted as quoted_text};
@@ -33,7 +34,8 @@ fn closed_text(alloc: Global, left: &[u8], at: u32) -> Result<(Vec<u8>, usize), 
 
 /// The text in quotes at the front of the bytes.
 pub(crate) fn quoted(alloc: Global, left: &[u8], at: u32) -> Result<Piece, LexError>
-    requires { begins_with quote left.now ≡ true }
+    requires begins { begins_with quote left.now ≡ true }
+    requires utf8 { IsUtf8 left.now }
     ensures piece { IfOk result (λ piece. BeginsPiece left.now piece.lexeme piece.length) }
     ensures fault { IfErr result (λ e. FaultsAt e at left.now) }
 {
