@@ -1,0 +1,12 @@
+//! Statements as they are written.
+#![tactic(auto)]
+
+mod expr;
+mod query;
+mod statement;
+
+pub use expr::{ColRef, SqlExpr};
+pub use query::{
+    Item, Items, JoinPart, JoinWord, OrderKey, OrderName, Primary, Query, Select, SqlCond, TableRef,
+};
+pub use statement::{CostPart, Statement};

@@ -1,0 +1,32 @@
+use crate::Scalar;
+use pdw_base::ColId;
+
+/// What an aggregate computes over the rows of a group: SQL-92, 6.5.
+#[derive(Clone, Copy, Debug, PartialEq, Eq)]
+pub enum AggKind {
+    /// The number of rows.
+    CountStar,
+    /// The number of values of the argument that are not NULL.
+    Count,
+    Sum,
+    Min,
+    Max,
+}
+
+/// An aggregate and the column that it makes. CountStar alone has no argument.
+#[derive(Drop)]
+pub struct Agg {
+    pub kind: AggKind,
+    pub arg: Option<Scalar>,
+    pub out: ColId,
+}
+
+/// How the rows of two sides are joined: SQL-92, 7.5; Semi keeps the left rows that have a partner, Anti those that have none.
+#[derive(Clone, Copy, Debug, PartialEq, Eq)]
+pub enum JoinKind {
+    Inner,
+    Left,
+    Full,
+    Semi,
+    Anti,
+}
