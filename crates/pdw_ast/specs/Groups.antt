@@ -1,0 +1,20 @@
+-- What may stand in a pair of parentheses.
+use Rattle.std.specs.Prelude.{List}
+use Rattle.pdw_ast.specs.Rule.{Rule}
+use Rattle.pdw_ast.specs.declared.expr.SqlExpr.{SqlExpr}
+use Rattle.pdw_ast.specs.declared.query.SqlCond.{SqlCond}
+use Rattle.pdw_ast.specs.declared.query.Query.{Query}
+use Rattle.pdw_ast.specs.declared.query.TableRef.{TableRef}
+
+-- the texts of each kind that parentheses may hold
+pub record Groups : Type 1 where
+  pub star : Rule (Unit {0})
+  pub expr : Rule SqlExpr
+  pub exprs : Rule (List SqlExpr)
+  pub cond : Rule SqlCond
+  pub query : Rule Query
+  pub tables : Rule TableRef
+
+-- no parentheses
+abbrev pub no_groups : Groups
+no_groups = record { star = λ w a. ⊥; expr = λ w a. ⊥; exprs = λ w a. ⊥; cond = λ w a. ⊥; query = λ w a. ⊥; tables = λ w a. ⊥ }
