@@ -1,0 +1,6 @@
+pub mod Arithmetic
+pub mod Logic
+pub mod Comparison
+pub mod Like
+pub mod Scalar
+pub mod Cond

@@ -2,7 +2,10 @@
 #![tactic(auto)]
 
 mod agg;
+mod arithmetic;
+mod comparison;
 mod cond;
+mod logic;
 mod scalar;
 
 pub use agg::{Agg, AggKind, JoinKind};
