@@ -22,3 +22,10 @@ truth_step (Cond-F.Any parts) env = any_of (map (λ part. part env) parts)
 
 abbrev pub truth_of : Cond → Env → Truth
 truth_of = fold-Cond (Env → Truth) truth_step
+
+-- the truth of AND and of OR over some conditions
+abbrev pub all_true : List Cond → Env → Truth
+all_true parts env = all_of (map (λ part. truth_of part env) parts)
+
+abbrev pub any_true : List Cond → Env → Truth
+any_true parts env = any_of (map (λ part. truth_of part env) parts)

@@ -1,0 +1,3 @@
+pub mod LikeLemmas
+pub mod MatchLaws
+pub mod RowLemmas
