@@ -6,6 +6,7 @@ mod arithmetic;
 mod comparison;
 mod cond;
 mod evaluate;
+mod laws;
 mod like;
 mod logic;
 mod scalar;
@@ -13,4 +14,8 @@ mod scalar;
 pub use agg::{Agg, AggKind, JoinKind};
 pub use cond::{Cmp, Cond};
 pub use evaluate::{eval_cond, eval_scalar};
+pub use laws::{like_follows_its_rules, only_used_columns_count, union_keeps_both_sides};
 pub use scalar::{Arith, Scalar};
+
+#[cfg(test)]
+mod tests;
