@@ -3,6 +3,7 @@ use pdw_base::{ColId, Kind, Row, Schema, Str, Truth, Value, ValueRef, order};
 use sqlite_items::{Boxed, Items};
 use std::alloc::Global;
 use std::cmp::Ordering;
+use std::process::Abort;
 use std::test::Fail;
 
 fn text(alloc: Global, bytes: &[u8]) -> Result<Value, Fail> {
@@ -14,31 +15,33 @@ fn value(alloc: Global, case: &str) -> Result<Value, Fail> {
     if let Some(bytes) = case.strip_prefix('\'') {
         return text(alloc, bytes.as_bytes());
     }
-    match case {
-        "NULL" => Ok(Value::Null),
-        "WIDE" => Ok(Value::Wide(1)),
-        _ => Ok(Value::Int(case.parse::<i64>()?)),
+    if case == "NULL" {
+        return Ok(Value::Null);
     }
+    if case == "WIDE" {
+        return Ok(Value::Wide(1));
+    }
+    Ok(Value::Int(case.parse::<i64>()?))
 }
 
 fn literal(alloc: Global, case: &str) -> Result<Scalar, Fail> {
     Ok(Scalar::Lit(value(alloc, case)?))
 }
 
-fn operator(case: &str) -> Arith {
+fn operator(case: char) -> Arith {
     match case {
-        "+" => Arith::Add,
-        "-" => Arith::Sub,
-        "*" => Arith::Mul,
-        "/" => Arith::Div,
+        '+' => Arith::Add,
+        '-' => Arith::Sub,
+        '*' => Arith::Mul,
+        '/' => Arith::Div,
         _ => Arith::Rem,
     }
 }
 
-fn truth(case: &str) -> Truth {
+fn truth(case: char) -> Truth {
     match case {
-        "T" => Truth::True,
-        "F" => Truth::False,
+        'T' => Truth::True,
+        'F' => Truth::False,
         _ => Truth::Unknown,
     }
 }
@@ -97,50 +100,50 @@ fn has_truth(alloc: Global, c: &Cond, wanted: Truth) -> Result<bool, Fail> {
 }
 
 // A condition that has this truth.
-fn with_truth(case: &str) -> Cond {
-    match case {
-        "T" => Cond::Compare(Cmp::Eq, number(1), number(1)),
-        "F" => Cond::Compare(Cmp::Eq, number(1), number(2)),
-        _ => Cond::Compare(Cmp::Eq, number(1), Scalar::Lit(Value::Null)),
+fn with_truth(truth: Truth) -> Cond {
+    match truth {
+        Truth::True => Cond::Compare(Cmp::Eq, number(1), number(1)),
+        Truth::False => Cond::Compare(Cmp::Eq, number(1), number(2)),
+        Truth::Unknown => Cond::Compare(Cmp::Eq, number(1), Scalar::Lit(Value::Null)),
     }
 }
 
-fn pair(alloc: Global, a: &str, b: &str) -> Result<Items<Cond>, Fail> {
+fn pair(alloc: Global, a: Truth, b: Truth) -> Result<Items<Cond>, Fail> {
     let mut parts = Vec::new(alloc);
     parts.push(with_truth(a))?;
     parts.push(with_truth(b))?;
     Ok(Items::from_vec(parts))
 }
 
-const ARITHMETIC: [[&str; 4]; 22] = [
-    ["1", "+", "2", "3"],
-    ["9223372036854775807", "+", "1", "NULL"],
-    ["-9223372036854775808", "+", "-1", "NULL"],
-    ["-9223372036854775808", "+", "9223372036854775807", "-1"],
-    ["1", "-", "2", "-1"],
-    ["-9223372036854775808", "-", "1", "NULL"],
-    ["0", "-", "-9223372036854775808", "NULL"],
-    ["-1", "-", "-9223372036854775808", "9223372036854775807"],
-    ["-3", "*", "4", "-12"],
-    ["-9223372036854775808", "*", "-1", "NULL"],
-    ["4294967296", "*", "2147483648", "NULL"],
-    ["4294967296", "*", "-2147483648", "-9223372036854775808"],
-    ["7", "/", "2", "3"],
-    ["-7", "/", "2", "-3"],
-    ["7", "/", "-2", "-3"],
-    ["-7", "/", "-2", "3"],
-    ["-9223372036854775808", "/", "-1", "NULL"],
-    ["7", "%", "2", "1"],
-    ["-7", "%", "2", "-1"],
-    ["7", "%", "-2", "1"],
-    ["-7", "%", "-2", "-1"],
-    ["-9223372036854775808", "%", "-1", "0"],
+const ARITHMETIC: [(&str, char, &str, &str); 22] = [
+    ("1", '+', "2", "3"),
+    ("9223372036854775807", '+', "1", "NULL"),
+    ("-9223372036854775808", '+', "-1", "NULL"),
+    ("-9223372036854775808", '+', "9223372036854775807", "-1"),
+    ("1", '-', "2", "-1"),
+    ("-9223372036854775808", '-', "1", "NULL"),
+    ("0", '-', "-9223372036854775808", "NULL"),
+    ("-1", '-', "-9223372036854775808", "9223372036854775807"),
+    ("-3", '*', "4", "-12"),
+    ("-9223372036854775808", '*', "-1", "NULL"),
+    ("4294967296", '*', "2147483648", "NULL"),
+    ("4294967296", '*', "-2147483648", "-9223372036854775808"),
+    ("7", '/', "2", "3"),
+    ("-7", '/', "2", "-3"),
+    ("7", '/', "-2", "-3"),
+    ("-7", '/', "-2", "3"),
+    ("-9223372036854775808", '/', "-1", "NULL"),
+    ("7", '%', "2", "1"),
+    ("-7", '%', "2", "-1"),
+    ("7", '%', "-2", "1"),
+    ("-7", '%', "-2", "-1"),
+    ("-9223372036854775808", '%', "-1", "0"),
 ];
 
 #[test]
 fn arithmetic_is_exact_or_null(rt: HostRuntime) -> Result<(), Fail> {
     let alloc = rt.alloc();
-    for [a, op, b, wanted] in ARITHMETIC {
+    for (a, op, b, wanted) in ARITHMETIC {
         let e = chain(alloc, literal(alloc, a)?, operator(op), literal(alloc, b)?)?;
         assert!(rt; has_value(alloc, &e, wanted)?, "{a} {op} {b}");
     }
@@ -158,12 +161,12 @@ fn gives_null(alloc: Global, op: Arith, other: &str) -> Result<bool, Fail> {
 #[test]
 fn an_operand_that_is_no_number_gives_null(rt: HostRuntime) -> Result<(), Fail> {
     let alloc = rt.alloc();
-    for op in ["+", "-", "*", "/", "%"] {
+    for op in ['+', '-', '*', '/', '%'] {
         assert!(rt; gives_null(alloc, operator(op), "NULL")?, "{op}");
         assert!(rt; gives_null(alloc, operator(op), "'1")?, "{op}");
         assert!(rt; gives_null(alloc, operator(op), "WIDE")?, "{op}");
     }
-    for op in ["/", "%"] {
+    for op in ['/', '%'] {
         let e = chain(alloc, number(7), operator(op), number(0))?;
         assert!(rt; has_value(alloc, &e, "NULL")?, "7 {op} 0");
     }
@@ -189,17 +192,17 @@ fn a_sign_is_exact_or_null(rt: HostRuntime) -> Result<(), Fail> {
     Ok(())
 }
 
-const CHAINS: [[&str; 6]; 4] = [
-    ["10", "-", "3", "-", "2", "5"],
-    ["7", "-", "2", "*", "3", "15"],
-    ["100", "/", "8", "/", "5", "2"],
-    ["9223372036854775807", "+", "1", "-", "1", "NULL"],
+const CHAINS: [(&str, char, &str, char, &str, &str); 4] = [
+    ("10", '-', "3", '-', "2", "5"),
+    ("7", '-', "2", '*', "3", "15"),
+    ("100", '/', "8", '/', "5", "2"),
+    ("9223372036854775807", '+', "1", '-', "1", "NULL"),
 ];
 
 #[test]
 fn a_chain_is_computed_from_left_to_right(rt: HostRuntime) -> Result<(), Fail> {
     let alloc = rt.alloc();
-    for [a, op, b, other, c, wanted] in CHAINS {
+    for (a, op, b, other, c, wanted) in CHAINS {
         let first = Boxed::new(alloc, literal(alloc, a)?)?;
         let mut links = Vec::new(alloc);
         links.push((operator(op), literal(alloc, b)?))?;
@@ -221,164 +224,213 @@ fn a_column_that_the_row_has_not_is_null(rt: HostRuntime) -> Result<(), Fail> {
     Ok(())
 }
 
-fn comparison(case: &str) -> Cmp {
-    match case {
-        "=" => Cmp::Eq,
-        "<>" => Cmp::Ne,
-        "<" => Cmp::Lt,
-        "<=" => Cmp::Le,
-        ">" => Cmp::Gt,
-        _ => Cmp::Ge,
-    }
-}
-
-fn compares(alloc: Global, a: &str, op: &str, b: &str, wanted: &str) -> Result<bool, Fail> {
-    let c = Cond::Compare(comparison(op), literal(alloc, a)?, literal(alloc, b)?);
-    has_truth(alloc, &c, truth(wanted))
+fn compares(alloc: Global, a: &str, op: Cmp, b: &str, wanted: Truth) -> Result<bool, Fail> {
+    let c = Cond::Compare(op, literal(alloc, a)?, literal(alloc, b)?);
+    has_truth(alloc, &c, wanted)
 }
 
 // The truths where the first value is less, where both are equal, and where it is greater.
-const COMPARISONS: [[&str; 4]; 6] = [
-    ["=", "F", "T", "F"],
-    ["<>", "T", "F", "T"],
-    ["<", "T", "F", "F"],
-    ["<=", "T", "T", "F"],
-    [">", "F", "F", "T"],
-    [">=", "F", "T", "T"],
-];
+fn check_comparison(
+    rt: &(impl AllocGlobal + Abort),
+    op: Cmp,
+    less: Truth,
+    equal: Truth,
+    greater: Truth,
+) -> Result<(), Fail> {
+    let alloc = rt.alloc();
+    assert!(rt; compares(alloc, "-1", op, "1", less)?, "{op:?}");
+    assert!(rt; compares(alloc, "1", op, "1", equal)?, "{op:?}");
+    assert!(rt; compares(alloc, "1", op, "-1", greater)?, "{op:?}");
+    assert!(rt; compares(alloc, "'a", op, "'a ", less)?, "{op:?}");
+    assert!(rt; compares(alloc, "'a", op, "'a", equal)?, "{op:?}");
+    assert!(rt; compares(alloc, "'a", op, "'Z", greater)?, "{op:?}");
+    assert!(rt; compares(alloc, "NULL", op, "1", Truth::Unknown)?, "{op:?}");
+    assert!(rt; compares(alloc, "1", op, "NULL", Truth::Unknown)?, "{op:?}");
+    assert!(rt;
+        compares(alloc, "NULL", op, "NULL", Truth::Unknown)?,
+        "{op:?}"
+    );
+    assert!(rt; compares(alloc, "1", op, "'1", Truth::Unknown)?, "{op:?}");
+    Ok(())
+}
 
 #[test]
 fn values_of_one_kind_compare(rt: HostRuntime) -> Result<(), Fail> {
-    let alloc = rt.alloc();
-    for [op, less, equal, greater] in COMPARISONS {
-        assert!(rt; compares(alloc, "-1", op, "1", less)?, "{op}");
-        assert!(rt; compares(alloc, "1", op, "1", equal)?, "{op}");
-        assert!(rt; compares(alloc, "1", op, "-1", greater)?, "{op}");
-        assert!(rt; compares(alloc, "'a", op, "'a ", less)?, "{op}");
-        assert!(rt; compares(alloc, "'a", op, "'a", equal)?, "{op}");
-        assert!(rt; compares(alloc, "'a", op, "'Z", greater)?, "{op}");
-        assert!(rt; compares(alloc, "NULL", op, "1", "U")?, "{op}");
-        assert!(rt; compares(alloc, "1", op, "NULL", "U")?, "{op}");
-        assert!(rt; compares(alloc, "NULL", op, "NULL", "U")?, "{op}");
-        assert!(rt; compares(alloc, "1", op, "'1", "U")?, "{op}");
-    }
-    Ok(())
+    check_comparison(&rt, Cmp::Eq, Truth::False, Truth::True, Truth::False)?;
+    check_comparison(&rt, Cmp::Ne, Truth::True, Truth::False, Truth::True)?;
+    check_comparison(&rt, Cmp::Lt, Truth::True, Truth::False, Truth::False)?;
+    check_comparison(&rt, Cmp::Le, Truth::True, Truth::True, Truth::False)?;
+    check_comparison(&rt, Cmp::Gt, Truth::False, Truth::False, Truth::True)?;
+    check_comparison(&rt, Cmp::Ge, Truth::False, Truth::True, Truth::True)
 }
 
-// Two truths, their AND and their OR.
-const LOGIC: [[&str; 4]; 9] = [
-    ["T", "T", "T", "T"],
-    ["T", "F", "F", "T"],
-    ["T", "U", "U", "T"],
-    ["F", "T", "F", "T"],
-    ["F", "F", "F", "F"],
-    ["F", "U", "F", "U"],
-    ["U", "T", "U", "T"],
-    ["U", "F", "F", "U"],
-    ["U", "U", "U", "U"],
-];
+fn and_is(alloc: Global, a: Truth, b: Truth, wanted: Truth) -> Result<bool, Fail> {
+    let all = Cond::All(pair(alloc, a, b)?);
+    has_truth(alloc, &all, wanted)
+}
+
+fn or_is(alloc: Global, a: Truth, b: Truth, wanted: Truth) -> Result<bool, Fail> {
+    let any = Cond::Any(pair(alloc, a, b)?);
+    has_truth(alloc, &any, wanted)
+}
+
+fn check_pair(
+    rt: &(impl AllocGlobal + Abort),
+    a: Truth,
+    b: Truth,
+    both: Truth,
+    either: Truth,
+) -> Result<(), Fail> {
+    assert!(rt; and_is(rt.alloc(), a, b, both)?, "{a:?} AND {b:?}");
+    assert!(rt; or_is(rt.alloc(), a, b, either)?, "{a:?} OR {b:?}");
+    Ok(())
+}
 
 #[test]
 fn and_and_or_are_three_valued(rt: HostRuntime) -> Result<(), Fail> {
-    let alloc = rt.alloc();
-    for [a, b, both, either] in LOGIC {
-        let all = Cond::All(pair(alloc, a, b)?);
-        assert!(rt; has_truth(alloc, &all, truth(both))?, "{a} AND {b}");
-        let any = Cond::Any(pair(alloc, a, b)?);
-        assert!(rt; has_truth(alloc, &any, truth(either))?, "{a} OR {b}");
-    }
+    check_pair(&rt, Truth::True, Truth::True, Truth::True, Truth::True)?;
+    check_pair(&rt, Truth::True, Truth::False, Truth::False, Truth::True)?;
+    check_pair(
+        &rt,
+        Truth::True,
+        Truth::Unknown,
+        Truth::Unknown,
+        Truth::True,
+    )?;
+    check_pair(&rt, Truth::False, Truth::True, Truth::False, Truth::True)?;
+    check_pair(&rt, Truth::False, Truth::False, Truth::False, Truth::False)?;
+    check_pair(
+        &rt,
+        Truth::False,
+        Truth::Unknown,
+        Truth::False,
+        Truth::Unknown,
+    )?;
+    check_pair(
+        &rt,
+        Truth::Unknown,
+        Truth::True,
+        Truth::Unknown,
+        Truth::True,
+    )?;
+    check_pair(
+        &rt,
+        Truth::Unknown,
+        Truth::False,
+        Truth::False,
+        Truth::Unknown,
+    )?;
+    check_pair(
+        &rt,
+        Truth::Unknown,
+        Truth::Unknown,
+        Truth::Unknown,
+        Truth::Unknown,
+    )
+}
+
+#[test]
+fn and_of_none_is_true(rt: HostRuntime) -> Result<(), Fail> {
+    let all = Cond::All(Items::new(rt.alloc()));
+    assert!(rt; has_truth(rt.alloc(), &all, Truth::True)?);
     Ok(())
 }
 
 #[test]
-fn and_of_none_is_true_and_or_of_none_is_false(rt: HostRuntime) -> Result<(), Fail> {
-    let alloc = rt.alloc();
-    let all = Cond::All(Items::new(alloc));
-    assert!(rt; has_truth(alloc, &all, Truth::True)?);
-    let any = Cond::Any(Items::new(alloc));
-    assert!(rt; has_truth(alloc, &any, Truth::False)?);
+fn or_of_none_is_false(rt: HostRuntime) -> Result<(), Fail> {
+    let any = Cond::Any(Items::new(rt.alloc()));
+    assert!(rt; has_truth(rt.alloc(), &any, Truth::False)?);
     Ok(())
 }
 
-// A truth, its NOT, and whether it IS TRUE, IS FALSE and IS UNKNOWN.
-const TESTS: [[&str; 5]; 3] = [
-    ["T", "F", "T", "F", "F"],
-    ["F", "T", "F", "T", "F"],
-    ["U", "U", "F", "F", "T"],
-];
-
-fn is_test(alloc: Global, a: &str, asked: Truth, wanted: &str) -> Result<bool, Fail> {
+fn is_test(alloc: Global, a: Truth, asked: Truth) -> Result<bool, Fail> {
     let test = Cond::Test(Boxed::new(alloc, with_truth(a))?, asked);
-    has_truth(alloc, &test, truth(wanted))
+    let wanted = if a == asked {
+        Truth::True
+    } else {
+        Truth::False
+    };
+    has_truth(alloc, &test, wanted)
+}
+
+fn not_is(alloc: Global, a: Truth, wanted: Truth) -> Result<bool, Fail> {
+    let not = Cond::Not(Boxed::new(alloc, with_truth(a))?);
+    has_truth(alloc, &not, wanted)
+}
+
+fn check_truth(rt: &(impl AllocGlobal + Abort), a: Truth, opposite: Truth) -> Result<(), Fail> {
+    assert!(rt; not_is(rt.alloc(), a, opposite)?, "NOT {a:?}");
+    assert!(rt; is_test(rt.alloc(), a, Truth::True)?, "{a:?} IS TRUE");
+    assert!(rt; is_test(rt.alloc(), a, Truth::False)?, "{a:?} IS FALSE");
+    assert!(rt; is_test(rt.alloc(), a, Truth::Unknown)?, "{a:?} IS UNKNOWN");
+    Ok(())
 }
 
 #[test]
 fn not_and_is_take_each_truth(rt: HostRuntime) -> Result<(), Fail> {
-    let alloc = rt.alloc();
-    for [a, opposite, is_true, is_false, is_unknown] in TESTS {
-        let not = Cond::Not(Boxed::new(alloc, with_truth(a))?);
-        assert!(rt; has_truth(alloc, &not, truth(opposite))?, "NOT {a}");
-        assert!(rt; is_test(alloc, a, Truth::True, is_true)?, "{a} IS TRUE");
-        assert!(rt; is_test(alloc, a, Truth::False, is_false)?, "{a} IS FALSE");
-        assert!(rt;
-            is_test(alloc, a, Truth::Unknown, is_unknown)?,
-            "{a} IS UNKNOWN"
-        );
-    }
-    Ok(())
+    check_truth(&rt, Truth::True, Truth::False)?;
+    check_truth(&rt, Truth::False, Truth::True)?;
+    check_truth(&rt, Truth::Unknown, Truth::Unknown)
 }
 
 #[test]
 fn is_null_is_never_unknown(rt: HostRuntime) -> Result<(), Fail> {
     let alloc = rt.alloc();
-    for [a, wanted] in [["NULL", "T"], ["0", "F"], ["'", "F"], ["WIDE", "F"]] {
+    for (a, wanted) in [("NULL", 'T'), ("0", 'F'), ("'", 'F'), ("WIDE", 'F')] {
         let c = Cond::IsNull(literal(alloc, a)?);
         assert!(rt; has_truth(alloc, &c, truth(wanted))?, "{a} IS NULL");
     }
     Ok(())
 }
 
-const LIKES: [[&str; 3]; 32] = [
-    ["'", "'", "T"],
-    ["'a", "'", "F"],
-    ["'", "'%", "T"],
-    ["'", "'_", "F"],
-    ["'a", "'_", "T"],
-    ["'ab", "'_", "F"],
-    ["'é", "'_", "T"],
-    ["'é", "'__", "F"],
-    ["'éa", "'__", "T"],
-    ["'ab", "'_b%", "T"],
-    ["'xb", "'_b%", "T"],
-    ["'éb1", "'_b%", "T"],
-    ["'b", "'_b%", "F"],
-    ["'ac", "'a%c", "T"],
-    ["'abbc", "'a%c", "T"],
-    ["'abd", "'a%c", "F"],
-    ["'aab", "'%ab", "T"],
-    ["'abab", "'%ab", "T"],
-    ["'aba", "'%ab", "F"],
-    ["'abab", "'ab%ab", "T"],
-    ["'aba", "'ab%ba", "F"],
-    ["'mississippi", "'%iss%_pi", "T"],
-    ["'mississippi", "'%ss%ss%ss%", "F"],
-    ["'A", "'a", "F"],
-    ["'100%", "'100%", "T"],
-    ["'日本語", "'%本_", "T"],
-    ["'日本", "'%本_", "F"],
-    ["NULL", "'%", "U"],
-    ["'", "NULL", "U"],
-    ["NULL", "NULL", "U"],
-    ["1", "'1", "U"],
-    ["'1", "1", "U"],
+fn is_like(alloc: Global, a: &str, pattern: &str, wanted: Truth) -> Result<bool, Fail> {
+    let c = Cond::Like(literal(alloc, a)?, literal(alloc, pattern)?);
+    has_truth(alloc, &c, wanted)
+}
+
+const LIKES: [(&str, &str, char); 32] = [
+    ("'", "'", 'T'),
+    ("'a", "'", 'F'),
+    ("'", "'%", 'T'),
+    ("'", "'_", 'F'),
+    ("'a", "'_", 'T'),
+    ("'ab", "'_", 'F'),
+    ("'é", "'_", 'T'),
+    ("'é", "'__", 'F'),
+    ("'éa", "'__", 'T'),
+    ("'ab", "'_b%", 'T'),
+    ("'xb", "'_b%", 'T'),
+    ("'éb1", "'_b%", 'T'),
+    ("'b", "'_b%", 'F'),
+    ("'ac", "'a%c", 'T'),
+    ("'abbc", "'a%c", 'T'),
+    ("'abd", "'a%c", 'F'),
+    ("'aab", "'%ab", 'T'),
+    ("'abab", "'%ab", 'T'),
+    ("'aba", "'%ab", 'F'),
+    ("'abab", "'ab%ab", 'T'),
+    ("'aba", "'ab%ba", 'F'),
+    ("'mississippi", "'%iss%_pi", 'T'),
+    ("'mississippi", "'%ss%ss%ss%", 'F'),
+    ("'A", "'a", 'F'),
+    ("'100%", "'100%", 'T'),
+    ("'日本語", "'%本_", 'T'),
+    ("'日本", "'%本_", 'F'),
+    ("NULL", "'%", 'U'),
+    ("'", "NULL", 'U'),
+    ("NULL", "NULL", 'U'),
+    ("1", "'1", 'U'),
+    ("'1", "1", 'U'),
 ];
 
 #[test]
 fn like_goes_by_characters(rt: HostRuntime) -> Result<(), Fail> {
     let alloc = rt.alloc();
-    for [a, pattern, wanted] in LIKES {
-        let c = Cond::Like(literal(alloc, a)?, literal(alloc, pattern)?);
-        assert!(rt; has_truth(alloc, &c, truth(wanted))?, "{a} LIKE {pattern}");
+    for (a, pattern, wanted) in LIKES {
+        assert!(rt;
+            is_like(alloc, a, pattern, truth(wanted))?,
+            "{a} LIKE {pattern}"
+        );
     }
     Ok(())
 }
@@ -393,18 +445,25 @@ fn repeated(alloc: Global, piece: &str, times: usize, end: &str) -> Result<Scala
     Ok(Scalar::Lit(text(alloc, whole.as_bytes())?))
 }
 
-fn long_like(alloc: Global, piece: &str, times: usize, end: &str) -> Result<Cond, Fail> {
+fn is_long_like(
+    alloc: Global,
+    piece: &str,
+    times: usize,
+    end: &str,
+    wanted: Truth,
+) -> Result<bool, Fail> {
     let pattern = repeated(alloc, piece, times, end)?;
-    Ok(Cond::Like(repeated(alloc, "a", 3000, "")?, pattern))
+    let c = Cond::Like(repeated(alloc, "a", 3000, "")?, pattern);
+    has_truth(alloc, &c, wanted)
 }
 
 #[test]
 fn like_tries_no_part_twice(rt: HostRuntime) -> Result<(), Fail> {
     let alloc = rt.alloc();
-    assert!(rt; has_truth(alloc, &long_like(alloc, "%a", 200, "b")?, Truth::False)?);
-    assert!(rt; has_truth(alloc, &long_like(alloc, "%a", 200, "%")?, Truth::True)?);
-    assert!(rt; has_truth(alloc, &long_like(alloc, "%a_", 300, "%b%")?, Truth::False)?);
-    assert!(rt; has_truth(alloc, &long_like(alloc, "%", 3000, "aab")?, Truth::False)?);
+    assert!(rt; is_long_like(alloc, "%a", 200, "b", Truth::False)?);
+    assert!(rt; is_long_like(alloc, "%a", 200, "%", Truth::True)?);
+    assert!(rt; is_long_like(alloc, "%a_", 300, "%b%", Truth::False)?);
+    assert!(rt; is_long_like(alloc, "%", 3000, "aab", Truth::False)?);
     Ok(())
 }
 
