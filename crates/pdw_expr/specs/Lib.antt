@@ -1,0 +1,9 @@
+pub mod Arithmetic
+pub mod Logic
+pub mod Comparison
+pub mod Like
+pub mod Run
+pub mod Env
+pub mod Scalar
+pub mod Cond
+pub mod Columns

@@ -2,9 +2,20 @@
 #![tactic(auto)]
 
 mod agg;
+mod arithmetic;
+mod comparison;
 mod cond;
+mod evaluate;
+mod laws;
+mod like;
+mod logic;
 mod scalar;
 
 pub use agg::{Agg, AggKind, JoinKind};
 pub use cond::{Cmp, Cond};
+pub use evaluate::{eval_cond, eval_scalar};
+pub use laws::{like_follows_its_rules, only_used_columns_count, union_keeps_both_sides};
 pub use scalar::{Arith, Scalar};
+
+#[cfg(test)]
+mod tests;

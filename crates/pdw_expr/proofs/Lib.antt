@@ -1,0 +1,5 @@
+pub mod LikeLemmas
+pub mod MatchLaws
+pub mod RowLemmas
+pub mod ColumnLaws
+pub mod EnvLaws
