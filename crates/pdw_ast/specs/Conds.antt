@@ -1,5 +1,5 @@
 -- The rules of search conditions: SQL-92, 8.2 to 8.12.
-use Rattle.std.specs.Prelude.{Bool, true, false, List, [], ◌∷◌, Option, Some, None, is_some, if◌then◌else◌}
+use Rattle.std.specs.Prelude.{Bool, List, [], ◌∷◌, Option, Some, None, is_some, if◌then◌else◌}
 use Rattle.pdw_base.specs.declared.truth.Truth.{Truth}
 use Rattle.pdw_lex.specs.declared.keyword.Keyword.TheVariants.{KwAnd, KwBetween, KwExists, KwIn, KwIs, KwLike, KwNot, KwNull, KwOr}
 use Rattle.pdw_ast.specs.Rule.{Rule, ◌>>=◌, ◌>>◌, ◌<$>◌, ◌or◌, pure, One, Maybe, Many, Enclosed}

@@ -1,9 +1,9 @@
 -- The rules of value expressions: SQL-92, 6.4, 6.5 and 6.11 to 6.14.
-use Rattle.std.specs.Prelude.{ℤ, Bool, List, [], ◌∷◌, Option, Some, None}
+use Rattle.std.specs.Prelude.{Bool, List, [], ◌∷◌, Option, Some, None}
 use Rattle.pdw_expr.specs.declared.scalar.Arith.{Arith}
 use Rattle.pdw_expr.specs.declared.agg.AggKind.TheVariants.{CountStar}
 use Rattle.pdw_lex.specs.declared.keyword.Keyword.TheVariants.{KwCount}
-use Rattle.pdw_lex.specs.declared.sign.Sign.TheVariants.{Star, Dot, Comma}
+use Rattle.pdw_lex.specs.declared.sign.Sign.TheVariants.{Dot, Comma}
 use Rattle.pdw_lex.specs.declared.token.Lexeme.{Lexeme}
 use Rattle.pdw_ast.specs.Rule.{Rule, ◌>>=◌, ◌>>◌, ◌<$>◌, ◌or◌, pure, One, Maybe, Many, Enclosed}
 use Rattle.pdw_ast.specs.Lexemes.{key, sign, name, number, text, minus_of, aggregate_of, term_operator_of, factor_operator_of}

@@ -7,3 +7,7 @@ pub mod Tables
 pub mod Queries
 pub mod Statements
 pub mod Texts
+pub mod Written
+pub mod Spelling
+pub mod Prints
+pub mod Puts

@@ -1,9 +1,9 @@
 -- The rules of queries and of SELECT: SQL-92, 7.3 to 7.9 and 13.1.
-use Rattle.std.specs.Prelude.{Bool, true, false, List, [], Option, Some, None}
+use Rattle.std.specs.Prelude.{Bool, false, List, []}
 use Rattle.std.specs.Option.{unwrap_or}
 use Rattle.pdw_lex.specs.declared.keyword.Keyword.TheVariants.{KwBy, KwFrom, KwGroup, KwHaving, KwOrder, KwSelect, KwWhere}
 use Rattle.pdw_lex.specs.declared.sign.Sign.TheVariants.{Dot, Star}
-use Rattle.pdw_ast.specs.Rule.{Rule, ◌>>=◌, ◌>>◌, ◌<$>◌, ◌or◌, pure, One, Maybe, Many}
+use Rattle.pdw_ast.specs.Rule.{Rule, ◌>>=◌, ◌>>◌, ◌<$>◌, ◌or◌, pure, One, Maybe}
 use Rattle.pdw_ast.specs.Lexemes.{key, sign, name, quantifier_of, direction_of, order_name_of}
 use Rattle.pdw_ast.specs.Groups.{Groups}
 use Rattle.pdw_ast.specs.Exprs.{listed, column_reference, expr}

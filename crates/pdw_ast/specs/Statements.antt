@@ -1,5 +1,5 @@
 -- The rules of statements.
-use Rattle.std.specs.Prelude.{ℕ, ℤ, List, [], Option, Some, None, is_none, codes}
+use Rattle.std.specs.Prelude.{ℕ, ℤ, List, Option, Some, None, is_none, codes}
 use Rattle.pdw_catalog.specs.declared.table.Column.{Column}
 use Rattle.pdw_lex.specs.declared.keyword.Keyword.TheVariants.{KwCreate, KwDistinct, KwDrop, KwFrom, KwNot, KwNull, KwSet, KwTable, KwUpdate, KwWith}
 use Rattle.pdw_lex.specs.declared.sign.Sign.TheVariants.{Comma, Equal}

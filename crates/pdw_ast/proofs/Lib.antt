@@ -1,0 +1,16 @@
+pub mod Valid
+pub mod Reprint
+pub mod ReprintTokens
+pub mod ReprintOne
+pub mod ReprintEquations
+pub mod ReprintExprs
+pub mod ReprintConds
+pub mod ReprintTables
+pub mod ReprintQueries
+pub mod ReprintStatements
+pub mod ReprintValid
+pub mod SpacedPieces
+pub mod PrintLaw
+pub mod PutLemmas
+pub mod PutExprLemmas
+pub mod PutTableLemmas
