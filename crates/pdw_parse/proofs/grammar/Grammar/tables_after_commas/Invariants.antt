@@ -1,0 +1,10 @@
+use Rattle.pdw_parse.specs.Levels.{nested}
+use Rattle.pdw_parse.specs.ReadExprs.{after_comma}
+use Rattle.pdw_parse.specs.ReadTables.{table_reference}
+use Rattle.pdw_parse.specs.Reading.{many}
+use Rattle.pdw_parse.proofs.Turns.{Left}
+use Rattle.pdw_parse.proofs.grammar.Grammar.tables_after_commas.Given as goal
+
+abbrev pub invariant-loop-turn : goal.invariant-loop-turn
+invariant-loop-turn g l =
+    let step = after_comma (table_reference (nested l.self.depth)) in Left step (many step l.fn.tokens) l._turn-end l._turn l.found l.tokens

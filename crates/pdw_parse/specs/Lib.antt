@@ -1,0 +1,11 @@
+pub mod Reading
+pub mod Tokens
+pub mod ReadExprs
+pub mod ReadConds
+pub mod ReadTables
+pub mod ReadQueries
+pub mod ReadStatements
+pub mod Levels
+pub mod Depth
+pub mod Spells
+pub mod Fault

@@ -1,0 +1,432 @@
+//! Conditions.
+
+ghost use Rattle.std.specs.Prelude.{◌≡◌, IfOk};
+ghost use Rattle.pdw_ast.specs.Conds.{all_of as all_of_spec, any_of as any_of_spec, negated_by as negated_by_spec, tested as tested_spec};
+ghost use Rattle.pdw_ast.specs.Lexemes as lexemes;
+ghost use Rattle.pdw_parse.specs.Levels.{Nests, nested};
+ghost use Rattle.pdw_parse.specs.ReadConds as spec;
+ghost use Rattle.pdw_parse.specs.Reading.{Reads, begun_by, many, next};
+
+use crate::content::{Among, Content, Operand, Wanted};
+use crate::grammar::Grammar;
+use crate::lexemes::{comparison_of, truth_of};
+use crate::lists::first_and_rest;
+use crate::parse_error::Stop;
+use crate::tokens::Tokens;
+use pdw_ast::{SqlCond, SqlExpr};
+use pdw_base::Truth;
+use pdw_expr::Cmp;
+use pdw_lex::{Keyword, Lexeme, Sign};
+use sqlite_items::{Boxed, Items as ListOf};
+use std::alloc::{AllocError, Global};
+
+// Conditions with AND between them, or the one that there is.
+fn all_of(alloc: Global, first: SqlCond, rest: ListOf<SqlCond>) -> Result<SqlCond, AllocError>
+    ensures { IfOk result (λ all. all ≡ all_of_spec first rest) }
+{
+    if rest.is_empty() {
+        return Ok(first);
+    }
+    Ok(SqlCond::All(first_and_rest(alloc, first, rest)?))
+}
+
+// Conditions with OR between them, or the one that there is.
+fn any_of(alloc: Global, first: SqlCond, rest: ListOf<SqlCond>) -> Result<SqlCond, AllocError>
+    ensures { IfOk result (λ any. any ≡ any_of_spec first rest) }
+{
+    if rest.is_empty() {
+        return Ok(first);
+    }
+    Ok(SqlCond::Any(first_and_rest(alloc, first, rest)?))
+}
+
+fn negated_by(alloc: Global, negated: bool, cond: SqlCond) -> Result<SqlCond, AllocError>
+    ensures { IfOk result (λ whole. whole ≡ negated_by_spec negated cond) }
+{
+    if negated {
+        Ok(SqlCond::Not(Boxed::new(alloc, cond)?))
+    } else {
+        Ok(cond)
+    }
+}
+
+// A condition and the test of its truth, which NOT may stand before.
+fn tested(alloc: Global, cond: SqlCond, test: Option<(bool, Truth)>) -> Result<SqlCond, AllocError>
+    ensures { IfOk result (λ whole. whole ≡ tested_spec cond test) }
+{
+    match test {
+        Some((negated, truth)) => Ok(SqlCond::Test {
+            negated,
+            cond: Boxed::new(alloc, cond)?,
+            truth,
+        }),
+        None => Ok(cond),
+    }
+}
+
+// The condition that a value is among others.
+fn among_cond(
+    alloc: Global,
+    negated: bool,
+    value: SqlExpr,
+    among: Among,
+) -> Result<SqlCond, AllocError>
+    ensures { IfOk result (λ cond. cond ≡ spec.among_cond negated value among) }
+{
+    match among {
+        Among::Query(query) => Ok(SqlCond::InQuery {
+            negated,
+            value,
+            query: Boxed::new(alloc, query)?,
+        }),
+        Among::Exprs(list) => Ok(SqlCond::InList {
+            negated,
+            value,
+            list,
+        }),
+    }
+}
+
+// Whether a value expression goes on to a predicate here.
+#[tactic(auto, unfolding(crate::specs::ReadConds::goes_on))]
+fn goes_on(tokens: &Tokens<'_>) -> bool
+    ensures { result ≡ spec.goes_on tokens.now }
+{
+    comparison_of(tokens.peek()).is_some()
+        || tokens.sees_key(Keyword::KwNot)
+        || tokens.sees_key(Keyword::KwIs)
+        || tokens.sees_key(Keyword::KwLike)
+        || tokens.sees_key(Keyword::KwBetween)
+        || tokens.sees_key(Keyword::KwIn)
+}
+
+// What follows IS: whether NOT is written, and the truth.
+#[tactic(auto, unfolding(crate::specs::ReadConds::truth_test, crate::specs::Reading::take))]
+fn truth_test(tokens: &mut Tokens<'_>) -> Result<(bool, Truth), Stop>
+    ensures { Reads (spec.truth_test tokens.old) result tokens.new }
+{
+    let negated = tokens.eat_key(Keyword::KwNot);
+    let truth = tokens.taken(truth_of(tokens.peek()))?;
+    Ok((negated, truth))
+}
+
+// The test of a truth, if IS comes next.
+#[tactic(auto, unfolding(crate::specs::Reading::eat))]
+fn truth_test_if(tokens: &mut Tokens<'_>) -> Result<Option<(bool, Truth)>, Stop>
+    ensures { Reads (begun_by (lexemes.is_key Keyword.KwIs) (λ _. spec.truth_test) tokens.old) result tokens.new }
+{
+    if tokens.eat_key(Keyword::KwIs) {
+        Ok(Some(truth_test(tokens)?))
+    } else {
+        Ok(None)
+    }
+}
+
+// A test that begins with this condition.
+#[tactic(auto, unfolding(crate::specs::ReadConds::test_from))]
+fn test_from(alloc: Global, tokens: &mut Tokens<'_>, cond: SqlCond) -> Result<SqlCond, Stop>
+    ensures { Reads (spec.test_from cond tokens.old) result tokens.new }
+{
+    let test = truth_test_if(tokens)?;
+    Ok(tested(alloc, cond, test)?)
+}
+
+impl<F: Fn(Global, &mut Tokens<'_>, usize, Wanted) -> Result<Content, Stop>> Grammar<F> {
+    // What follows `value IS`.
+    #[tactic(auto, unfolding(crate::specs::ReadConds::null_test_from))]
+    fn null_test_from(&self, tokens: &mut Tokens<'_>, value: SqlExpr) -> Result<SqlCond, Stop>
+        ensures { Reads (spec.null_test_from (nested self.now.depth) value tokens.old) result tokens.new }
+    {
+        let negated = tokens.eat_key(Keyword::KwNot);
+        tokens.take_key(Keyword::KwNull)?;
+        Ok(SqlCond::IsNull { negated, value })
+    }
+
+    // What follows `value [ NOT ] BETWEEN`.
+    #[tactic(auto, unfolding(crate::specs::ReadConds::between_from))]
+    fn between_from(
+        &self,
+        tokens: &mut Tokens<'_>,
+        negated: bool,
+        value: SqlExpr,
+    ) -> Result<SqlCond, Stop>
+        requires { Nests self.now.depth (F.pre self.now.group) (F.post self.now.group) }
+        ensures { Reads (spec.between_from (nested self.now.depth) negated value tokens.old) result tokens.new }
+    {
+        let low = self.expr(tokens)?;
+        tokens.take_key(Keyword::KwAnd)?;
+        let high = self.expr(tokens)?;
+        Ok(SqlCond::Between {
+            negated,
+            value,
+            low,
+            high,
+        })
+    }
+
+    // LIKE, BETWEEN or IN, and what they are followed by.
+    fn negatable(
+        &self,
+        tokens: &mut Tokens<'_>,
+        negated: bool,
+        value: SqlExpr,
+    ) -> Result<SqlCond, Stop>
+        requires { Nests self.now.depth (F.pre self.now.group) (F.post self.now.group) }
+        ensures { Reads (spec.negatable_by (nested self.now.depth) negated value (next tokens.old) tokens.old) result tokens.new }
+    {
+        match tokens.peek() {
+            Some(Lexeme::Key(Keyword::KwLike)) => {
+                tokens.advance();
+                let pattern = self.expr(tokens)?;
+                Ok(SqlCond::Like {
+                    negated,
+                    value,
+                    pattern,
+                })
+            }
+            Some(Lexeme::Key(Keyword::KwBetween)) => {
+                tokens.advance();
+                self.between_from(tokens, negated, value)
+            }
+            Some(Lexeme::Key(Keyword::KwIn)) => {
+                tokens.advance();
+                let among = self.among_group(tokens)?;
+                Ok(among_cond(self.alloc, negated, value, among)?)
+            }
+            _ => Err(Stop::Syntax),
+        }
+    }
+
+    // The same with NOT before it, if that is written.
+    #[tactic(auto, unfolding(crate::specs::ReadConds::negatable_from))]
+    fn negatable_from(&self, tokens: &mut Tokens<'_>, value: SqlExpr) -> Result<SqlCond, Stop>
+        requires { Nests self.now.depth (F.pre self.now.group) (F.post self.now.group) }
+        ensures { Reads (spec.negatable_from (nested self.now.depth) value tokens.old) result tokens.new }
+    {
+        let negated = tokens.eat_key(Keyword::KwNot);
+        self.negatable(tokens, negated, value)
+    }
+
+    // A predicate of this operator, if there is one, or another predicate.
+    fn predicate_by(
+        &self,
+        tokens: &mut Tokens<'_>,
+        value: SqlExpr,
+        operator: Option<Cmp>,
+    ) -> Result<SqlCond, Stop>
+        requires { Nests self.now.depth (F.pre self.now.group) (F.post self.now.group) }
+        ensures { Reads (spec.predicate_by (nested self.now.depth) value operator tokens.old) result tokens.new }
+    {
+        if let Some(operator) = operator {
+            let other = self.expr(tokens)?;
+            return Ok(SqlCond::Compare(operator, value, other));
+        }
+        if tokens.eat_key(Keyword::KwIs) {
+            self.null_test_from(tokens, value)
+        } else {
+            self.negatable_from(tokens, value)
+        }
+    }
+
+    // A predicate that begins with this value.
+    #[tactic(auto, unfolding(crate::specs::ReadConds::predicate_from, crate::specs::Reading::take_if))]
+    fn predicate_from(&self, tokens: &mut Tokens<'_>, value: SqlExpr) -> Result<SqlCond, Stop>
+        requires { Nests self.now.depth (F.pre self.now.group) (F.post self.now.group) }
+        ensures { Reads (spec.predicate_from (nested self.now.depth) value tokens.old) result tokens.new }
+    {
+        let operator = tokens.taken_if(comparison_of(tokens.peek()));
+        self.predicate_by(tokens, value, operator)
+    }
+
+    // What a pair of parentheses begins.
+    fn after_group(&self, tokens: &mut Tokens<'_>, inner: Operand) -> Result<Operand, Stop>
+        requires { Nests self.now.depth (F.pre self.now.group) (F.post self.now.group) }
+        ensures { Reads (spec.after_group (nested self.now.depth) inner tokens.old) result tokens.new }
+    {
+        match inner {
+            Operand::Cond(cond) => Ok(Operand::Cond(SqlCond::Paren(Boxed::new(self.alloc, cond)?))),
+            Operand::Expr(expr) => {
+                let first = SqlExpr::Paren(Boxed::new(self.alloc, expr)?);
+                Ok(Operand::Expr(self.expr_from(tokens, first)?))
+            }
+        }
+    }
+
+    /// A whole condition that begins one, or the expression that begins a predicate.
+    #[tactic(auto, unfolding(crate::specs::ReadConds::started))]
+    fn started(&self, tokens: &mut Tokens<'_>) -> Result<Operand, Stop>
+        requires { Nests self.now.depth (F.pre self.now.group) (F.post self.now.group) }
+        ensures { Reads (spec.started (nested self.now.depth) tokens.old) result tokens.new }
+    {
+        match tokens.peek() {
+            Some(Lexeme::Key(Keyword::KwExists)) => {
+                tokens.advance();
+                let query = self.query_group(tokens)?;
+                Ok(Operand::Cond(SqlCond::Exists(Boxed::new(self.alloc, query)?)))
+            }
+            Some(Lexeme::Sign(Sign::ParenOpen)) => {
+                let inner = self.operand_group(tokens)?;
+                self.after_group(tokens, inner)
+            }
+            _ => Ok(Operand::Expr(self.expr(tokens)?)),
+        }
+    }
+
+    #[tactic(auto, unfolding(crate::specs::ReadConds::primary_condition))]
+    fn primary_condition(&self, tokens: &mut Tokens<'_>) -> Result<SqlCond, Stop>
+        requires { Nests self.now.depth (F.pre self.now.group) (F.post self.now.group) }
+        ensures { Reads (spec.primary_condition (nested self.now.depth) tokens.old) result tokens.new }
+    {
+        match self.started(tokens)? {
+            Operand::Cond(cond) => Ok(cond),
+            Operand::Expr(expr) => self.predicate_from(tokens, expr),
+        }
+    }
+
+    #[tactic(auto, unfolding(crate::specs::ReadConds::factor))]
+    fn factor(&self, tokens: &mut Tokens<'_>) -> Result<SqlCond, Stop>
+        requires { Nests self.now.depth (F.pre self.now.group) (F.post self.now.group) }
+        ensures { Reads (spec.factor (nested self.now.depth) tokens.old) result tokens.new }
+    {
+        let negated = tokens.eat_key(Keyword::KwNot);
+        let primary = self.primary_condition(tokens)?;
+        let test = test_from(self.alloc, tokens, primary)?;
+        Ok(negated_by(self.alloc, negated, test)?)
+    }
+
+    // The condition after AND, if that comes next.
+    #[tactic(auto, unfolding(crate::specs::Reading::eat))]
+    fn factor_after_and(&self, tokens: &mut Tokens<'_>) -> Result<Option<SqlCond>, Stop>
+        requires { Nests self.now.depth (F.pre self.now.group) (F.post self.now.group) }
+        ensures { Reads (begun_by (lexemes.is_key Keyword.KwAnd) (λ _. spec.factor (nested self.now.depth)) tokens.old) result tokens.new }
+    {
+        if tokens.eat_key(Keyword::KwAnd) {
+            Ok(Some(self.factor(tokens)?))
+        } else {
+            Ok(None)
+        }
+    }
+
+    #[tactic(auto, using(crate::proofs::Turns::turns), unfolding(crate::specs::Reading::many))]
+    fn factors_after_and(&self, tokens: &mut Tokens<'_>) -> Result<ListOf<SqlCond>, Stop>
+        requires { Nests self.now.depth (F.pre self.now.group) (F.post self.now.group) }
+        ensures { Reads (many (begun_by (lexemes.is_key Keyword.KwAnd) (λ _. spec.factor (nested self.now.depth))) tokens.old) result tokens.new }
+    {
+        let mut found = ListOf::new(self.alloc);
+        for _turn in 0..tokens.left() {
+            match self.factor_after_and(tokens)? {
+                Some(factor) => found.push(factor)?,
+                None => return Ok(found),
+            }
+        }
+        Ok(found)
+    }
+
+    // A term that begins with this factor.
+    #[tactic(auto, unfolding(crate::specs::ReadConds::term_from))]
+    fn term_from(&self, tokens: &mut Tokens<'_>, first: SqlCond) -> Result<SqlCond, Stop>
+        requires { Nests self.now.depth (F.pre self.now.group) (F.post self.now.group) }
+        ensures { Reads (spec.term_from (nested self.now.depth) first tokens.old) result tokens.new }
+    {
+        let rest = self.factors_after_and(tokens)?;
+        Ok(all_of(self.alloc, first, rest)?)
+    }
+
+    #[tactic(auto, unfolding(crate::specs::ReadConds::term))]
+    fn term(&self, tokens: &mut Tokens<'_>) -> Result<SqlCond, Stop>
+        requires { Nests self.now.depth (F.pre self.now.group) (F.post self.now.group) }
+        ensures { Reads (spec.term (nested self.now.depth) tokens.old) result tokens.new }
+    {
+        let first = self.factor(tokens)?;
+        self.term_from(tokens, first)
+    }
+
+    // The condition after OR, if that comes next.
+    #[tactic(auto, unfolding(crate::specs::Reading::eat))]
+    fn term_after_or(&self, tokens: &mut Tokens<'_>) -> Result<Option<SqlCond>, Stop>
+        requires { Nests self.now.depth (F.pre self.now.group) (F.post self.now.group) }
+        ensures { Reads (begun_by (lexemes.is_key Keyword.KwOr) (λ _. spec.term (nested self.now.depth)) tokens.old) result tokens.new }
+    {
+        if tokens.eat_key(Keyword::KwOr) {
+            Ok(Some(self.term(tokens)?))
+        } else {
+            Ok(None)
+        }
+    }
+
+    #[tactic(auto, using(crate::proofs::Turns::turns), unfolding(crate::specs::Reading::many))]
+    fn terms_after_or(&self, tokens: &mut Tokens<'_>) -> Result<ListOf<SqlCond>, Stop>
+        requires { Nests self.now.depth (F.pre self.now.group) (F.post self.now.group) }
+        ensures { Reads (many (begun_by (lexemes.is_key Keyword.KwOr) (λ _. spec.term (nested self.now.depth))) tokens.old) result tokens.new }
+    {
+        let mut found = ListOf::new(self.alloc);
+        for _turn in 0..tokens.left() {
+            match self.term_after_or(tokens)? {
+                Some(term) => found.push(term)?,
+                None => return Ok(found),
+            }
+        }
+        Ok(found)
+    }
+
+    // A condition that begins with this term.
+    #[tactic(auto, unfolding(crate::specs::ReadConds::cond_from))]
+    fn cond_from(&self, tokens: &mut Tokens<'_>, first: SqlCond) -> Result<SqlCond, Stop>
+        requires { Nests self.now.depth (F.pre self.now.group) (F.post self.now.group) }
+        ensures { Reads (spec.cond_from (nested self.now.depth) first tokens.old) result tokens.new }
+    {
+        let rest = self.terms_after_or(tokens)?;
+        Ok(any_of(self.alloc, first, rest)?)
+    }
+
+    #[tactic(auto, unfolding(crate::specs::ReadConds::cond))]
+    pub fn cond(&self, tokens: &mut Tokens<'_>) -> Result<SqlCond, Stop>
+        requires { Nests self.now.depth (F.pre self.now.group) (F.post self.now.group) }
+        ensures { Reads (spec.cond (nested self.now.depth) tokens.old) result tokens.new }
+    {
+        let first = self.term(tokens)?;
+        self.cond_from(tokens, first)
+    }
+
+    // A condition that begins with this one, which no NOT stands before.
+    #[tactic(auto, unfolding(crate::specs::ReadConds::condition_from))]
+    fn condition_from(&self, tokens: &mut Tokens<'_>, first: SqlCond) -> Result<SqlCond, Stop>
+        requires { Nests self.now.depth (F.pre self.now.group) (F.post self.now.group) }
+        ensures { Reads (spec.condition_from (nested self.now.depth) first tokens.old) result tokens.new }
+    {
+        let test = test_from(self.alloc, tokens, first)?;
+        let term = self.term_from(tokens, test)?;
+        self.cond_from(tokens, term)
+    }
+
+    // What a condition or an expression goes on to.
+    #[tactic(auto, unfolding(crate::specs::ReadConds::goes_on))]
+    fn operand_from(&self, tokens: &mut Tokens<'_>, first: Operand) -> Result<Operand, Stop>
+        requires { Nests self.now.depth (F.pre self.now.group) (F.post self.now.group) }
+        ensures { Reads (spec.operand_from (nested self.now.depth) first tokens.old) result tokens.new }
+    {
+        match first {
+            Operand::Cond(cond) => Ok(Operand::Cond(self.condition_from(tokens, cond)?)),
+            Operand::Expr(expr) => {
+                if !goes_on(tokens) {
+                    return Ok(Operand::Expr(expr));
+                }
+                let predicate = self.predicate_from(tokens, expr)?;
+                Ok(Operand::Cond(self.condition_from(tokens, predicate)?))
+            }
+        }
+    }
+
+    /// A condition or an expression.
+    #[tactic(auto, unfolding(crate::specs::ReadConds::operand))]
+    pub fn operand(&self, tokens: &mut Tokens<'_>) -> Result<Operand, Stop>
+        requires { Nests self.now.depth (F.pre self.now.group) (F.post self.now.group) }
+        ensures { Reads (spec.operand (nested self.now.depth) tokens.old) result tokens.new }
+    {
+        if tokens.sees_key(Keyword::KwNot) {
+            return Ok(Operand::Cond(self.cond(tokens)?));
+        }
+        let first = self.started(tokens)?;
+        self.operand_from(tokens, first)
+    }
+}

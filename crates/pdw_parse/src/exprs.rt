@@ -1,0 +1,312 @@
+//! Value expressions.
+
+ghost use Rattle.std.specs.Prelude.{◌≡◌, [], ◌∷◌, IfOk};
+ghost use Rattle.pdw_ast.specs.Lexemes as lexemes;
+ghost use Rattle.pdw_ast.specs.Exprs.{chained as chained_spec, with_sign as with_sign_spec};
+ghost use Rattle.pdw_parse.specs.Levels.{Nests, nested};
+ghost use Rattle.pdw_parse.specs.ReadExprs as spec;
+ghost use Rattle.pdw_parse.specs.Reading.{Reads, many};
+
+use crate::content::{Content, Wanted};
+use crate::grammar::Grammar;
+use crate::lexemes::{aggregate_of, factor_operator_of, minus_of, term_operator_of};
+use crate::lists::first_and_rest;
+use crate::parse_error::Stop;
+use crate::tokens::Tokens;
+use pdw_ast::{ColRef, SqlExpr};
+use pdw_base::Str;
+use pdw_expr::{AggKind, Arith};
+use pdw_lex::{Lexeme, Sign};
+use sqlite_items::{Boxed, Items as ListOf};
+use std::alloc::{AllocError, Global};
+
+// An operand and what is chained to it.
+fn chained(
+    alloc: Global,
+    first: SqlExpr,
+    rest: ListOf<(Arith, SqlExpr)>,
+) -> Result<SqlExpr, AllocError>
+    ensures { IfOk result (λ chain. chain ≡ chained_spec first rest) }
+{
+    if rest.is_empty() {
+        return Ok(first);
+    }
+    Ok(SqlExpr::Chain {
+        first: Boxed::new(alloc, first)?,
+        rest,
+    })
+}
+
+// A value and the sign before it: whether that is a minus.
+fn with_sign(alloc: Global, minus: Option<bool>, value: SqlExpr) -> Result<SqlExpr, AllocError>
+    ensures { IfOk result (λ signed. signed ≡ with_sign_spec minus value) }
+{
+    match minus {
+        Some(minus) => Ok(SqlExpr::Signed {
+            minus,
+            value: Boxed::new(alloc, value)?,
+        }),
+        None => Ok(value),
+    }
+}
+
+// COUNT of what stands in its parentheses.
+fn count_of(alloc: Global, counted: Option<SqlExpr>) -> Result<SqlExpr, AllocError>
+    ensures { IfOk result (λ count. count ≡ spec.count_of counted) }
+{
+    match counted {
+        Some(value) => Ok(SqlExpr::Agg {
+            kind: AggKind::Count,
+            arg: Some(Boxed::new(alloc, value)?),
+        }),
+        None => Ok(SqlExpr::Agg {
+            kind: AggKind::CountStar,
+            arg: None,
+        }),
+    }
+}
+
+/// A column that begins with this name.
+#[tactic(auto, unfolding(crate::specs::ReadExprs::column_from))]
+pub fn column_from(alloc: Global, tokens: &mut Tokens<'_>, first: Str) -> Result<ColRef, Stop>
+    ensures { Reads (spec.column_from first tokens.old) result tokens.new }
+{
+    if tokens.eat_sign(Sign::Dot) {
+        let column = tokens.take_name(alloc)?;
+        return Ok(ColRef {
+            alias: Some(first),
+            column,
+        });
+    }
+    Ok(ColRef {
+        alias: None,
+        column: first,
+    })
+}
+
+#[tactic(auto, unfolding(crate::specs::ReadExprs::column_reference))]
+pub fn column_reference(alloc: Global, tokens: &mut Tokens<'_>) -> Result<ColRef, Stop>
+    ensures { Reads (spec.column_reference tokens.old) result tokens.new }
+{
+    let first = tokens.take_name(alloc)?;
+    column_from(alloc, tokens, first)
+}
+
+impl<F: Fn(Global, &mut Tokens<'_>, usize, Wanted) -> Result<Content, Stop>> Grammar<F> {
+    // What an aggregate of this kind is of.
+    fn aggregated(&self, tokens: &mut Tokens<'_>, kind: AggKind) -> Result<SqlExpr, Stop>
+        requires { Nests self.now.depth (F.pre self.now.group) (F.post self.now.group) }
+        ensures { Reads (spec.aggregate_by (nested self.now.depth) kind tokens.old) result tokens.new }
+    {
+        if let AggKind::Count = kind {
+            let counted = self.counted_group(tokens)?;
+            return Ok(count_of(self.alloc, counted)?);
+        }
+        let value = self.expr_group(tokens)?;
+        Ok(SqlExpr::Agg {
+            kind,
+            arg: Some(Boxed::new(self.alloc, value)?),
+        })
+    }
+
+    #[tactic(auto, unfolding(crate::specs::ReadExprs::aggregate, crate::specs::Reading::take))]
+    fn aggregate(&self, tokens: &mut Tokens<'_>) -> Result<SqlExpr, Stop>
+        requires { Nests self.now.depth (F.pre self.now.group) (F.post self.now.group) }
+        ensures { Reads (spec.aggregate (nested self.now.depth) tokens.old) result tokens.new }
+    {
+        let kind = tokens.taken(aggregate_of(tokens.peek()))?;
+        self.aggregated(tokens, kind)
+    }
+
+    #[tactic(auto, unfolding(crate::specs::ReadExprs::value))]
+    fn value(&self, tokens: &mut Tokens<'_>) -> Result<SqlExpr, Stop>
+        requires { Nests self.now.depth (F.pre self.now.group) (F.post self.now.group) }
+        ensures { Reads (spec.value (nested self.now.depth) tokens.old) result tokens.new }
+    {
+        match tokens.peek() {
+            Some(Lexeme::Number(number)) => {
+                tokens.advance();
+                Ok(SqlExpr::Number(*number))
+            }
+            Some(Lexeme::Text(text)) => {
+                tokens.advance();
+                Ok(SqlExpr::Text(text.try_copy(self.alloc)?))
+            }
+            Some(Lexeme::Name(name)) => {
+                tokens.advance();
+                let first = name.try_copy(self.alloc)?;
+                Ok(SqlExpr::Col(column_from(self.alloc, tokens, first)?))
+            }
+            Some(Lexeme::Key(_)) => self.aggregate(tokens),
+            _ => {
+                let inner = self.expr_group(tokens)?;
+                Ok(SqlExpr::Paren(Boxed::new(self.alloc, inner)?))
+            }
+        }
+    }
+
+    #[tactic(auto, unfolding(crate::specs::ReadExprs::signed, crate::specs::Reading::take_if))]
+    fn signed(&self, tokens: &mut Tokens<'_>) -> Result<SqlExpr, Stop>
+        requires { Nests self.now.depth (F.pre self.now.group) (F.post self.now.group) }
+        ensures { Reads (spec.signed (nested self.now.depth) tokens.old) result tokens.new }
+    {
+        let minus = tokens.taken_if(minus_of(tokens.peek()));
+        let value = self.value(tokens)?;
+        Ok(with_sign(self.alloc, minus, value)?)
+    }
+
+    // An operator and its right operand, if an operator comes next.
+    #[tactic(auto, unfolding(crate::specs::Reading::take_if))]
+    fn factor_operation(&self, tokens: &mut Tokens<'_>) -> Result<Option<(Arith, SqlExpr)>, Stop>
+        requires { Nests self.now.depth (F.pre self.now.group) (F.post self.now.group) }
+        ensures { Reads (spec.operations lexemes.factor_operator_of (spec.signed (nested self.now.depth)) tokens.old) result tokens.new }
+    {
+        match tokens.taken_if(factor_operator_of(tokens.peek())) {
+            Some(operator) => Ok(Some((operator, self.signed(tokens)?))),
+            None => Ok(None),
+        }
+    }
+
+    // The operators of a product with their right operands.
+    #[tactic(auto, using(crate::proofs::Turns::turns), unfolding(crate::specs::Reading::many))]
+    fn factor_operations(&self, tokens: &mut Tokens<'_>) -> Result<ListOf<(Arith, SqlExpr)>, Stop>
+        requires { Nests self.now.depth (F.pre self.now.group) (F.post self.now.group) }
+        ensures { Reads (many (spec.operations lexemes.factor_operator_of (spec.signed (nested self.now.depth))) tokens.old) result tokens.new }
+    {
+        let mut found = ListOf::new(self.alloc);
+        for _turn in 0..tokens.left() {
+            match self.factor_operation(tokens)? {
+                Some(operation) => found.push(operation)?,
+                None => return Ok(found),
+            }
+        }
+        Ok(found)
+    }
+
+    /// A product that begins with this operand.
+    #[tactic(auto, unfolding(crate::specs::ReadExprs::product_from))]
+    fn product_from(&self, tokens: &mut Tokens<'_>, first: SqlExpr) -> Result<SqlExpr, Stop>
+        requires { Nests self.now.depth (F.pre self.now.group) (F.post self.now.group) }
+        ensures { Reads (spec.product_from (nested self.now.depth) first tokens.old) result tokens.new }
+    {
+        let rest = self.factor_operations(tokens)?;
+        Ok(chained(self.alloc, first, rest)?)
+    }
+
+    #[tactic(auto, unfolding(crate::specs::ReadExprs::product))]
+    fn product(&self, tokens: &mut Tokens<'_>) -> Result<SqlExpr, Stop>
+        requires { Nests self.now.depth (F.pre self.now.group) (F.post self.now.group) }
+        ensures { Reads (spec.product (nested self.now.depth) tokens.old) result tokens.new }
+    {
+        let first = self.signed(tokens)?;
+        self.product_from(tokens, first)
+    }
+
+    // An operator and its right operand, if an operator comes next.
+    #[tactic(auto, unfolding(crate::specs::Reading::take_if))]
+    fn term_operation(&self, tokens: &mut Tokens<'_>) -> Result<Option<(Arith, SqlExpr)>, Stop>
+        requires { Nests self.now.depth (F.pre self.now.group) (F.post self.now.group) }
+        ensures { Reads (spec.operations lexemes.term_operator_of (spec.product (nested self.now.depth)) tokens.old) result tokens.new }
+    {
+        match tokens.taken_if(term_operator_of(tokens.peek())) {
+            Some(operator) => Ok(Some((operator, self.product(tokens)?))),
+            None => Ok(None),
+        }
+    }
+
+    // The operators of a sum with their right operands.
+    #[tactic(auto, using(crate::proofs::Turns::turns), unfolding(crate::specs::Reading::many))]
+    fn term_operations(&self, tokens: &mut Tokens<'_>) -> Result<ListOf<(Arith, SqlExpr)>, Stop>
+        requires { Nests self.now.depth (F.pre self.now.group) (F.post self.now.group) }
+        ensures { Reads (many (spec.operations lexemes.term_operator_of (spec.product (nested self.now.depth))) tokens.old) result tokens.new }
+    {
+        let mut found = ListOf::new(self.alloc);
+        for _turn in 0..tokens.left() {
+            match self.term_operation(tokens)? {
+                Some(operation) => found.push(operation)?,
+                None => return Ok(found),
+            }
+        }
+        Ok(found)
+    }
+
+    // A sum that begins with this operand.
+    #[tactic(auto, unfolding(crate::specs::ReadExprs::sum_from))]
+    fn sum_from(&self, tokens: &mut Tokens<'_>, first: SqlExpr) -> Result<SqlExpr, Stop>
+        requires { Nests self.now.depth (F.pre self.now.group) (F.post self.now.group) }
+        ensures { Reads (spec.sum_from (nested self.now.depth) first tokens.old) result tokens.new }
+    {
+        let rest = self.term_operations(tokens)?;
+        Ok(chained(self.alloc, first, rest)?)
+    }
+
+    #[tactic(auto, unfolding(crate::specs::ReadExprs::expr))]
+    pub fn expr(&self, tokens: &mut Tokens<'_>) -> Result<SqlExpr, Stop>
+        requires { Nests self.now.depth (F.pre self.now.group) (F.post self.now.group) }
+        ensures { Reads (spec.expr (nested self.now.depth) tokens.old) result tokens.new }
+    {
+        let first = self.product(tokens)?;
+        self.sum_from(tokens, first)
+    }
+
+    /// An expression that begins with this value.
+    #[tactic(auto, unfolding(crate::specs::ReadExprs::expr_from))]
+    pub fn expr_from(&self, tokens: &mut Tokens<'_>, first: SqlExpr) -> Result<SqlExpr, Stop>
+        requires { Nests self.now.depth (F.pre self.now.group) (F.post self.now.group) }
+        ensures { Reads (spec.expr_from (nested self.now.depth) first tokens.old) result tokens.new }
+    {
+        let product = self.product_from(tokens, first)?;
+        self.sum_from(tokens, product)
+    }
+
+    /// What COUNT counts: None is `*`.
+    #[tactic(auto, unfolding(crate::specs::ReadExprs::counted))]
+    pub fn counted(&self, tokens: &mut Tokens<'_>) -> Result<Option<SqlExpr>, Stop>
+        requires { Nests self.now.depth (F.pre self.now.group) (F.post self.now.group) }
+        ensures { Reads (spec.counted (nested self.now.depth) tokens.old) result tokens.new }
+    {
+        if tokens.eat_sign(Sign::Star) {
+            return Ok(None);
+        }
+        Ok(Some(self.expr(tokens)?))
+    }
+
+    // The expression after a comma, if one comes next.
+    #[tactic(auto, unfolding(crate::specs::Reading::eat))]
+    fn expr_after_comma(&self, tokens: &mut Tokens<'_>) -> Result<Option<SqlExpr>, Stop>
+        requires { Nests self.now.depth (F.pre self.now.group) (F.post self.now.group) }
+        ensures { Reads (spec.after_comma (spec.expr (nested self.now.depth)) tokens.old) result tokens.new }
+    {
+        if tokens.eat_sign(Sign::Comma) {
+            Ok(Some(self.expr(tokens)?))
+        } else {
+            Ok(None)
+        }
+    }
+
+    #[tactic(auto, using(crate::proofs::Turns::turns), unfolding(crate::specs::Reading::many))]
+    fn exprs_after_commas(&self, tokens: &mut Tokens<'_>) -> Result<ListOf<SqlExpr>, Stop>
+        requires { Nests self.now.depth (F.pre self.now.group) (F.post self.now.group) }
+        ensures { Reads (many (spec.after_comma (spec.expr (nested self.now.depth))) tokens.old) result tokens.new }
+    {
+        let mut found = ListOf::new(self.alloc);
+        for _turn in 0..tokens.left() {
+            match self.expr_after_comma(tokens)? {
+                Some(expr) => found.push(expr)?,
+                None => return Ok(found),
+            }
+        }
+        Ok(found)
+    }
+
+    /// Expressions with commas between them.
+    #[tactic(auto, unfolding(crate::specs::ReadExprs::listed))]
+    pub fn exprs(&self, tokens: &mut Tokens<'_>) -> Result<ListOf<SqlExpr>, Stop>
+        requires { Nests self.now.depth (F.pre self.now.group) (F.post self.now.group) }
+        ensures { Reads (spec.listed (spec.expr (nested self.now.depth)) tokens.old) result tokens.new }
+    {
+        let first = self.expr(tokens)?;
+        let rest = self.exprs_after_commas(tokens)?;
+        Ok(first_and_rest(self.alloc, first, rest)?)
+    }
+}

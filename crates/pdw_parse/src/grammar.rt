@@ -1,0 +1,94 @@
+//! The rules that hold parentheses take what reads those as a parameter, so that each rule is proved by itself.
+
+ghost use Rattle.pdw_parse.specs.Levels.{Nests, content_by, nested};
+ghost use Rattle.pdw_parse.specs.Reading.{Reads};
+
+use crate::content::{Among, Content, Operand, Source, Wanted};
+use crate::parse_error::Stop;
+use crate::tokens::Tokens;
+use pdw_ast::{Query, SqlExpr};
+use std::alloc::Global;
+
+#[derive(Clone, Copy)]
+pub struct Grammar<F> {
+    pub alloc: Global,
+    /// How many more parentheses may be open.
+    pub depth: usize,
+    /// Reads a pair of parentheses with what it holds.
+    pub group: F,
+}
+
+impl<F: Fn(Global, &mut Tokens<'_>, usize, Wanted) -> Result<Content, Stop>> Grammar<F> {
+    fn content(&self, tokens: &mut Tokens<'_>, wanted: Wanted) -> Result<Content, Stop>
+        requires { Nests self.now.depth (F.pre self.now.group) (F.post self.now.group) }
+        ensures { Reads (content_by (nested self.now.depth) wanted tokens.old) result tokens.new }
+    {
+        (self.group)(self.alloc, tokens, self.depth, wanted)
+    }
+
+    /// `( expr )`
+    pub fn expr_group(&self, tokens: &mut Tokens<'_>) -> Result<SqlExpr, Stop>
+        requires { Nests self.now.depth (F.pre self.now.group) (F.post self.now.group) }
+        ensures { Reads ((nested self.now.depth).expr tokens.old) result tokens.new }
+    {
+        match self.content(tokens, Wanted::Expr)? {
+            Content::Expr(expr) => Ok(expr),
+            _ => unreachable!(),
+        }
+    }
+
+    /// `( * )`, which gives None, or `( expr )`
+    pub fn counted_group(&self, tokens: &mut Tokens<'_>) -> Result<Option<SqlExpr>, Stop>
+        requires { Nests self.now.depth (F.pre self.now.group) (F.post self.now.group) }
+        ensures { Reads ((nested self.now.depth).counted tokens.old) result tokens.new }
+    {
+        match self.content(tokens, Wanted::Counted)? {
+            Content::Counted(counted) => Ok(counted),
+            _ => unreachable!(),
+        }
+    }
+
+    /// `( cond )` or `( expr )`
+    pub fn operand_group(&self, tokens: &mut Tokens<'_>) -> Result<Operand, Stop>
+        requires { Nests self.now.depth (F.pre self.now.group) (F.post self.now.group) }
+        ensures { Reads ((nested self.now.depth).operand tokens.old) result tokens.new }
+    {
+        match self.content(tokens, Wanted::Operand)? {
+            Content::Operand(operand) => Ok(operand),
+            _ => unreachable!(),
+        }
+    }
+
+    /// `( query )` or `( expr { , expr } )`
+    pub fn among_group(&self, tokens: &mut Tokens<'_>) -> Result<Among, Stop>
+        requires { Nests self.now.depth (F.pre self.now.group) (F.post self.now.group) }
+        ensures { Reads ((nested self.now.depth).among tokens.old) result tokens.new }
+    {
+        match self.content(tokens, Wanted::Among)? {
+            Content::Among(among) => Ok(among),
+            _ => unreachable!(),
+        }
+    }
+
+    /// `( query )`
+    pub fn query_group(&self, tokens: &mut Tokens<'_>) -> Result<Query, Stop>
+        requires { Nests self.now.depth (F.pre self.now.group) (F.post self.now.group) }
+        ensures { Reads ((nested self.now.depth).query tokens.old) result tokens.new }
+    {
+        match self.content(tokens, Wanted::Query)? {
+            Content::Query(query) => Ok(query),
+            _ => unreachable!(),
+        }
+    }
+
+    /// `( query )` or `( tableref )`
+    pub fn source_group(&self, tokens: &mut Tokens<'_>) -> Result<Source, Stop>
+        requires { Nests self.now.depth (F.pre self.now.group) (F.post self.now.group) }
+        ensures { Reads ((nested self.now.depth).source tokens.old) result tokens.new }
+    {
+        match self.content(tokens, Wanted::Source)? {
+            Content::Source(source) => Ok(source),
+            _ => unreachable!(),
+        }
+    }
+}

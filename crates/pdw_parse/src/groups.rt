@@ -1,0 +1,55 @@
+//! Parentheses, and what they hold.
+
+ghost use Rattle.std.specs.Prelude.{◌≡◌};
+ghost use Rattle.pdw_parse.specs.Levels.{Nests, content_by, inner_by, nested};
+ghost use Rattle.pdw_parse.specs.Reading.{Reads, closed};
+
+use crate::content::{Content, Wanted};
+use crate::grammar::Grammar;
+use crate::parse_error::Stop;
+use crate::tokens::Tokens;
+use pdw_lex::Sign;
+use std::alloc::Global;
+
+impl<F: Fn(Global, &mut Tokens<'_>, usize, Wanted) -> Result<Content, Stop>> Grammar<F> {
+    // What the parentheses hold.
+    fn inner(&self, tokens: &mut Tokens<'_>, wanted: Wanted) -> Result<Content, Stop>
+        requires { Nests self.now.depth (F.pre self.now.group) (F.post self.now.group) }
+        ensures { Reads (inner_by (nested self.now.depth) wanted tokens.old) result tokens.new }
+    {
+        match wanted {
+            Wanted::Expr => Ok(Content::Expr(self.expr(tokens)?)),
+            Wanted::Counted => Ok(Content::Counted(self.counted(tokens)?)),
+            Wanted::Operand => Ok(Content::Operand(self.operand(tokens)?)),
+            Wanted::Among => Ok(Content::Among(self.among(tokens)?)),
+            Wanted::Query => Ok(Content::Query(self.query(tokens)?)),
+            Wanted::Source => Ok(Content::Source(self.source(tokens)?)),
+        }
+    }
+}
+
+/// A pair of parentheses with what is wanted in it, where `depth` more may be open.
+pub fn group(
+    alloc: Global,
+    tokens: &mut Tokens<'_>,
+    depth: usize,
+    wanted: Wanted,
+) -> Result<Content, Stop>
+    ensures { Reads (content_by (nested depth) wanted tokens.old) result tokens.new }
+{
+    if !tokens.sees_sign(Sign::ParenOpen) {
+        return Err(Stop::Syntax);
+    }
+    if depth == 0 {
+        return Err(Stop::TooDeep);
+    }
+    tokens.advance();
+    let rules = Grammar {
+        alloc,
+        depth: depth - 1,
+        group,
+    };
+    let content = rules.inner(tokens, wanted)?;
+    tokens.take_sign(Sign::ParenClose)?;
+    Ok(content)
+}

@@ -1,0 +1,51 @@
+ghost use Rattle.std.specs.Prelude.{◌≡◌, ◌-◌, ◌≤◌, length, slice_get, IfOk, IfErr};
+ghost use Rattle.pdw_parse.specs.Fault.{IsFault, begins_at};
+ghost use Rattle.pdw_parse.specs.Spells.{Spells};
+ghost use Rattle.pdw_parse.specs.Tokens.{lexemes};
+
+use crate::ParseError;
+use crate::grammar::Grammar;
+use crate::groups::group;
+use crate::parse_error::Stop;
+use crate::tokens::Tokens;
+use pdw_ast::Statement;
+use pdw_lex::Token;
+use sqlite_items::Items as ListOf;
+use std::alloc::Global;
+
+/// The greatest number of parentheses that may be open at a place.
+pub const MOST_OPEN: usize = 32;
+
+// The place of the token at which so many tokens are left, or the end of the script.
+fn place(tokens: &[Token], left: usize, end: u32) -> u32
+    requires { left ≤ length tokens.now }
+    ensures { result ≡ begins_at (slice_get tokens.now (length tokens.now - left)) end }
+{
+    match tokens.get(tokens.len() - left) {
+        Some(token) => token.from,
+        None => end,
+    }
+}
+
+/// The statements that the tokens of a script spell, or the first fault; `end` is the end of the script in bytes.
+pub fn parse(alloc: Global, tokens: &[Token], end: u32) -> Result<ListOf<Statement>, ParseError>
+    ensures statements { IfOk result (λ statements. Spells (lexemes tokens.now) statements) }
+    ensures fault { IfErr result (λ e. IsFault tokens.now end e) }
+{
+    let mut cursor = Tokens::new(tokens);
+    let rules = Grammar {
+        alloc,
+        depth: MOST_OPEN,
+        group,
+    };
+    match rules.script(&mut cursor) {
+        Ok(statements) => Ok(statements),
+        Err(Stop::Syntax) => Err(ParseError::Syntax {
+            at: place(tokens, cursor.left(), end),
+        }),
+        Err(Stop::TooDeep) => Err(ParseError::TooDeep {
+            at: place(tokens, cursor.left(), end),
+        }),
+        Err(Stop::Memory) => Err(ParseError::Memory),
+    }
+}

@@ -1,0 +1,395 @@
+//! Queries and SELECT.
+
+ghost use Rattle.std.specs.Prelude.{◌≡◌};
+ghost use Rattle.pdw_parse.specs.Levels.{Nests, nested};
+ghost use Rattle.pdw_parse.specs.ReadExprs.{after_comma, column_reference as column_reference_spec};
+ghost use Rattle.pdw_parse.specs.ReadQueries as spec;
+ghost use Rattle.pdw_ast.specs.Lexemes.{order_name_of};
+ghost use Rattle.pdw_parse.specs.Reading.{Reads, many, read, take};
+
+use crate::content::{Among, Content, Source, Wanted};
+use crate::exprs::column_reference;
+use crate::grammar::Grammar;
+use crate::lexemes::{direction_of, quantifier_of};
+use crate::lists::first_and_rest;
+use crate::parse_error::Stop;
+use crate::tables::alias;
+use crate::tokens::Tokens;
+use pdw_ast::{
+    ColRef, Item, Items, OrderKey, OrderName, Query, Select, SqlCond, SqlExpr, TableRef,
+};
+use pdw_base::Str;
+use pdw_lex::{Keyword, Lexeme, Sign};
+use sqlite_items::Items as ListOf;
+use std::alloc::Global;
+
+// Whether equal rows are to stand once.
+#[tactic(auto, unfolding(crate::specs::ReadQueries::distinct, crate::specs::Reading::take_if))]
+fn distinct(tokens: &mut Tokens<'_>) -> bool
+    ensures { spec.distinct tokens.old ≡ read result tokens.new }
+{
+    tokens
+        .taken_if(quantifier_of(tokens.peek()))
+        .unwrap_or(false)
+}
+
+// The column after a comma, if one comes next.
+#[tactic(auto, unfolding(crate::specs::Reading::eat))]
+fn column_after_comma(alloc: Global, tokens: &mut Tokens<'_>) -> Result<Option<ColRef>, Stop>
+    ensures { Reads (after_comma column_reference_spec tokens.old) result tokens.new }
+{
+    if tokens.eat_sign(Sign::Comma) {
+        Ok(Some(column_reference(alloc, tokens)?))
+    } else {
+        Ok(None)
+    }
+}
+
+#[tactic(auto, using(crate::proofs::Turns::turns), unfolding(crate::specs::Reading::many))]
+fn columns_after_commas(alloc: Global, tokens: &mut Tokens<'_>) -> Result<ListOf<ColRef>, Stop>
+    ensures { Reads (many (after_comma column_reference_spec) tokens.old) result tokens.new }
+{
+    let mut found = ListOf::new(alloc);
+    for _turn in 0..tokens.left() {
+        match column_after_comma(alloc, tokens)? {
+            Some(column) => found.push(column)?,
+            None => return Ok(found),
+        }
+    }
+    Ok(found)
+}
+
+// The columns of GROUP BY, if that is written.
+#[tactic(auto, unfolding(crate::specs::ReadQueries::grouping, crate::specs::ReadExprs::listed))]
+fn grouping(alloc: Global, tokens: &mut Tokens<'_>) -> Result<ListOf<ColRef>, Stop>
+    ensures { Reads (spec.grouping tokens.old) result tokens.new }
+{
+    if !tokens.eat_key(Keyword::KwGroup) {
+        return Ok(ListOf::new(alloc));
+    }
+    tokens.take_key(Keyword::KwBy)?;
+    let first = column_reference(alloc, tokens)?;
+    let rest = columns_after_commas(alloc, tokens)?;
+    Ok(first_and_rest(alloc, first, rest)?)
+}
+
+// What a key of ORDER BY names.
+#[tactic(auto, unfolding(crate::specs::Reading::take))]
+fn order_name(alloc: Global, tokens: &mut Tokens<'_>) -> Result<OrderName, Stop>
+    ensures { Reads (take order_name_of tokens.old) result tokens.new }
+{
+    match tokens.peek() {
+        Some(Lexeme::Name(name)) => {
+            tokens.advance();
+            Ok(OrderName::Name(name.try_copy(alloc)?))
+        }
+        Some(Lexeme::Number(position)) => {
+            tokens.advance();
+            Ok(OrderName::Position(*position))
+        }
+        _ => Err(Stop::Syntax),
+    }
+}
+
+#[tactic(auto, unfolding(crate::specs::ReadQueries::order_key, crate::specs::Reading::take_if))]
+fn order_key(alloc: Global, tokens: &mut Tokens<'_>) -> Result<OrderKey, Stop>
+    ensures { Reads (spec.order_key tokens.old) result tokens.new }
+{
+    let name = order_name(alloc, tokens)?;
+    let written = tokens.taken_if(direction_of(tokens.peek()));
+    Ok(OrderKey {
+        name,
+        descending: written.unwrap_or(false),
+    })
+}
+
+// The key after a comma, if one comes next.
+#[tactic(auto, unfolding(crate::specs::Reading::eat))]
+fn key_after_comma(alloc: Global, tokens: &mut Tokens<'_>) -> Result<Option<OrderKey>, Stop>
+    ensures { Reads (after_comma spec.order_key tokens.old) result tokens.new }
+{
+    if tokens.eat_sign(Sign::Comma) {
+        Ok(Some(order_key(alloc, tokens)?))
+    } else {
+        Ok(None)
+    }
+}
+
+#[tactic(auto, using(crate::proofs::Turns::turns), unfolding(crate::specs::Reading::many))]
+fn keys_after_commas(alloc: Global, tokens: &mut Tokens<'_>) -> Result<ListOf<OrderKey>, Stop>
+    ensures { Reads (many (after_comma spec.order_key) tokens.old) result tokens.new }
+{
+    let mut found = ListOf::new(alloc);
+    for _turn in 0..tokens.left() {
+        match key_after_comma(alloc, tokens)? {
+            Some(key) => found.push(key)?,
+            None => return Ok(found),
+        }
+    }
+    Ok(found)
+}
+
+// The keys of ORDER BY, if that is written.
+#[tactic(auto, unfolding(crate::specs::ReadQueries::ordering, crate::specs::ReadExprs::listed))]
+fn ordering(alloc: Global, tokens: &mut Tokens<'_>) -> Result<ListOf<OrderKey>, Stop>
+    ensures { Reads (spec.ordering tokens.old) result tokens.new }
+{
+    if !tokens.eat_key(Keyword::KwOrder) {
+        return Ok(ListOf::new(alloc));
+    }
+    tokens.take_key(Keyword::KwBy)?;
+    let first = order_key(alloc, tokens)?;
+    let rest = keys_after_commas(alloc, tokens)?;
+    Ok(first_and_rest(alloc, first, rest)?)
+}
+
+impl<F: Fn(Global, &mut Tokens<'_>, usize, Wanted) -> Result<Content, Stop>> Grammar<F> {
+    // An item that begins with this value.
+    #[tactic(auto, unfolding(crate::specs::ReadQueries::made_from))]
+    fn made_from(&self, tokens: &mut Tokens<'_>, first: SqlExpr) -> Result<Item, Stop>
+        requires { Nests self.now.depth (F.pre self.now.group) (F.post self.now.group) }
+        ensures { Reads (spec.made_from (nested self.now.depth) first tokens.old) result tokens.new }
+    {
+        let value = self.expr_from(tokens, first)?;
+        let name = alias(self.alloc, tokens)?;
+        Ok(Item::Made { value, name })
+    }
+
+    // An item that begins with this name and a dot.
+    fn dotted(&self, tokens: &mut Tokens<'_>, first: Str) -> Result<Item, Stop>
+        requires { Nests self.now.depth (F.pre self.now.group) (F.post self.now.group) }
+        ensures { Reads (spec.dotted (nested self.now.depth) first tokens.old) result tokens.new }
+    {
+        if tokens.eat_sign(Sign::Star) {
+            return Ok(Item::AliasStar(first));
+        }
+        let column = tokens.take_name(self.alloc)?;
+        self.made_from(
+            tokens,
+            SqlExpr::Col(ColRef {
+                alias: Some(first),
+                column,
+            }),
+        )
+    }
+
+    // An item that begins with this name.
+    fn named(&self, tokens: &mut Tokens<'_>, first: Str) -> Result<Item, Stop>
+        requires { Nests self.now.depth (F.pre self.now.group) (F.post self.now.group) }
+        ensures { Reads (spec.named (nested self.now.depth) first tokens.old) result tokens.new }
+    {
+        if tokens.eat_sign(Sign::Dot) {
+            return self.dotted(tokens, first);
+        }
+        self.made_from(
+            tokens,
+            SqlExpr::Col(ColRef {
+                alias: None,
+                column: first,
+            }),
+        )
+    }
+
+    #[tactic(auto, unfolding(crate::specs::ReadQueries::item))]
+    fn item(&self, tokens: &mut Tokens<'_>) -> Result<Item, Stop>
+        requires { Nests self.now.depth (F.pre self.now.group) (F.post self.now.group) }
+        ensures { Reads (spec.item (nested self.now.depth) tokens.old) result tokens.new }
+    {
+        if let Some(Lexeme::Name(name)) = tokens.peek() {
+            tokens.advance();
+            let first = name.try_copy(self.alloc)?;
+            return self.named(tokens, first);
+        }
+        let value = self.expr(tokens)?;
+        let name = alias(self.alloc, tokens)?;
+        Ok(Item::Made { value, name })
+    }
+
+    // The item after a comma, if one comes next.
+    #[tactic(auto, unfolding(crate::specs::Reading::eat))]
+    fn item_after_comma(&self, tokens: &mut Tokens<'_>) -> Result<Option<Item>, Stop>
+        requires { Nests self.now.depth (F.pre self.now.group) (F.post self.now.group) }
+        ensures { Reads (after_comma (spec.item (nested self.now.depth)) tokens.old) result tokens.new }
+    {
+        if tokens.eat_sign(Sign::Comma) {
+            Ok(Some(self.item(tokens)?))
+        } else {
+            Ok(None)
+        }
+    }
+
+    #[tactic(auto, using(crate::proofs::Turns::turns), unfolding(crate::specs::Reading::many))]
+    fn items_after_commas(&self, tokens: &mut Tokens<'_>) -> Result<ListOf<Item>, Stop>
+        requires { Nests self.now.depth (F.pre self.now.group) (F.post self.now.group) }
+        ensures { Reads (many (after_comma (spec.item (nested self.now.depth))) tokens.old) result tokens.new }
+    {
+        let mut found = ListOf::new(self.alloc);
+        for _turn in 0..tokens.left() {
+            match self.item_after_comma(tokens)? {
+                Some(item) => found.push(item)?,
+                None => return Ok(found),
+            }
+        }
+        Ok(found)
+    }
+
+    #[tactic(auto, unfolding(crate::specs::ReadQueries::items, crate::specs::ReadExprs::listed))]
+    fn items(&self, tokens: &mut Tokens<'_>) -> Result<Items, Stop>
+        requires { Nests self.now.depth (F.pre self.now.group) (F.post self.now.group) }
+        ensures { Reads (spec.items (nested self.now.depth) tokens.old) result tokens.new }
+    {
+        if tokens.eat_sign(Sign::Star) {
+            return Ok(Items::Star);
+        }
+        let first = self.item(tokens)?;
+        let rest = self.items_after_commas(tokens)?;
+        Ok(Items::List(first_and_rest(self.alloc, first, rest)?))
+    }
+
+    // The condition of WHERE, if that is written.
+    #[tactic(auto, unfolding(crate::specs::ReadQueries::filter, crate::specs::Reading::eat))]
+    fn filter(&self, tokens: &mut Tokens<'_>) -> Result<Option<SqlCond>, Stop>
+        requires { Nests self.now.depth (F.pre self.now.group) (F.post self.now.group) }
+        ensures { Reads (spec.filter (nested self.now.depth) tokens.old) result tokens.new }
+    {
+        if tokens.eat_key(Keyword::KwWhere) {
+            Ok(Some(self.cond(tokens)?))
+        } else {
+            Ok(None)
+        }
+    }
+
+    // The condition of HAVING, if that is written.
+    #[tactic(auto, unfolding(crate::specs::ReadQueries::having, crate::specs::Reading::eat))]
+    fn having(&self, tokens: &mut Tokens<'_>) -> Result<Option<SqlCond>, Stop>
+        requires { Nests self.now.depth (F.pre self.now.group) (F.post self.now.group) }
+        ensures { Reads (spec.having (nested self.now.depth) tokens.old) result tokens.new }
+    {
+        if tokens.eat_key(Keyword::KwHaving) {
+            Ok(Some(self.cond(tokens)?))
+        } else {
+            Ok(None)
+        }
+    }
+
+    // A query that may go on with HAVING.
+    #[tactic(auto, unfolding(crate::specs::ReadQueries::query_grouped))]
+    fn query_grouped(
+        &self,
+        tokens: &mut Tokens<'_>,
+        distinct: bool,
+        items: Items,
+        from: ListOf<TableRef>,
+        filter: Option<SqlCond>,
+        group: ListOf<ColRef>,
+    ) -> Result<Query, Stop>
+        requires { Nests self.now.depth (F.pre self.now.group) (F.post self.now.group) }
+        ensures { Reads (spec.query_grouped (nested self.now.depth) distinct items from filter group tokens.old) result tokens.new }
+    {
+        let having = self.having(tokens)?;
+        Ok(Query {
+            distinct,
+            items,
+            from,
+            filter,
+            group,
+            having,
+        })
+    }
+
+    // A query that may go on with GROUP BY.
+    #[tactic(auto, unfolding(crate::specs::ReadQueries::query_filtered))]
+    fn query_filtered(
+        &self,
+        tokens: &mut Tokens<'_>,
+        distinct: bool,
+        items: Items,
+        from: ListOf<TableRef>,
+        filter: Option<SqlCond>,
+    ) -> Result<Query, Stop>
+        requires { Nests self.now.depth (F.pre self.now.group) (F.post self.now.group) }
+        ensures { Reads (spec.query_filtered (nested self.now.depth) distinct items from filter tokens.old) result tokens.new }
+    {
+        let group = grouping(self.alloc, tokens)?;
+        self.query_grouped(tokens, distinct, items, from, filter, group)
+    }
+
+    // A query that may go on with WHERE.
+    #[tactic(auto, unfolding(crate::specs::ReadQueries::query_of))]
+    fn query_of(
+        &self,
+        tokens: &mut Tokens<'_>,
+        distinct: bool,
+        items: Items,
+        from: ListOf<TableRef>,
+    ) -> Result<Query, Stop>
+        requires { Nests self.now.depth (F.pre self.now.group) (F.post self.now.group) }
+        ensures { Reads (spec.query_of (nested self.now.depth) distinct items from tokens.old) result tokens.new }
+    {
+        let filter = self.filter(tokens)?;
+        self.query_filtered(tokens, distinct, items, from, filter)
+    }
+
+    // A query that goes on with the word FROM.
+    #[tactic(auto, unfolding(crate::specs::ReadQueries::query_from))]
+    fn query_from(
+        &self,
+        tokens: &mut Tokens<'_>,
+        distinct: bool,
+        items: Items,
+    ) -> Result<Query, Stop>
+        requires { Nests self.now.depth (F.pre self.now.group) (F.post self.now.group) }
+        ensures { Reads (spec.query_from (nested self.now.depth) distinct items tokens.old) result tokens.new }
+    {
+        tokens.take_key(Keyword::KwFrom)?;
+        let from = self.tables(tokens)?;
+        self.query_of(tokens, distinct, items, from)
+    }
+
+    #[tactic(auto, unfolding(crate::specs::ReadQueries::query))]
+    pub fn query(&self, tokens: &mut Tokens<'_>) -> Result<Query, Stop>
+        requires { Nests self.now.depth (F.pre self.now.group) (F.post self.now.group) }
+        ensures { Reads (spec.query (nested self.now.depth) tokens.old) result tokens.new }
+    {
+        tokens.take_key(Keyword::KwSelect)?;
+        let distinct = distinct(tokens);
+        let items = self.items(tokens)?;
+        self.query_from(tokens, distinct, items)
+    }
+
+    #[tactic(auto, unfolding(crate::specs::ReadQueries::select))]
+    pub fn select(&self, tokens: &mut Tokens<'_>) -> Result<Select, Stop>
+        requires { Nests self.now.depth (F.pre self.now.group) (F.post self.now.group) }
+        ensures { Reads (spec.select (nested self.now.depth) tokens.old) result tokens.new }
+    {
+        let query = self.query(tokens)?;
+        let order = ordering(self.alloc, tokens)?;
+        Ok(Select { query, order })
+    }
+
+    /// What a value is looked for in.
+    #[tactic(auto, unfolding(crate::specs::ReadQueries::among))]
+    pub fn among(&self, tokens: &mut Tokens<'_>) -> Result<Among, Stop>
+        requires { Nests self.now.depth (F.pre self.now.group) (F.post self.now.group) }
+        ensures { Reads (spec.among (nested self.now.depth) tokens.old) result tokens.new }
+    {
+        if tokens.sees_key(Keyword::KwSelect) {
+            Ok(Among::Query(self.query(tokens)?))
+        } else {
+            Ok(Among::Exprs(self.exprs(tokens)?))
+        }
+    }
+
+    /// What stands in parentheses in FROM.
+    #[tactic(auto, unfolding(crate::specs::ReadQueries::source))]
+    pub fn source(&self, tokens: &mut Tokens<'_>) -> Result<Source, Stop>
+        requires { Nests self.now.depth (F.pre self.now.group) (F.post self.now.group) }
+        ensures { Reads (spec.source (nested self.now.depth) tokens.old) result tokens.new }
+    {
+        if tokens.sees_key(Keyword::KwSelect) {
+            Ok(Source::Query(self.query(tokens)?))
+        } else {
+            Ok(Source::Tables(self.table_reference(tokens)?))
+        }
+    }
+}

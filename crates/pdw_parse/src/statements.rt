@@ -1,0 +1,376 @@
+//! Statements and scripts.
+
+ghost use Rattle.pdw_ast.specs.Lexemes.{name_of};
+ghost use Rattle.pdw_parse.specs.Levels.{Nests, nested};
+ghost use Rattle.pdw_parse.specs.ReadExprs.{after_comma};
+ghost use Rattle.pdw_parse.specs.ReadStatements as spec;
+ghost use Rattle.pdw_parse.specs.Reading.{Reads, enclosed, many, take};
+
+use crate::content::{Content, Wanted};
+use crate::grammar::Grammar;
+use crate::lexemes::{cost_part_of, kind_of};
+use crate::lists::first_and_rest;
+use crate::parse_error::Stop;
+use crate::tokens::Tokens;
+use pdw_ast::Statement;
+use pdw_base::Str;
+use pdw_catalog::Column;
+use pdw_lex::{Keyword, Lexeme, Sign};
+use sqlite_items::Items as ListOf;
+use std::alloc::Global;
+
+// Whether a column may hold NULL.
+#[tactic(auto, unfolding(crate::specs::ReadStatements::nullable))]
+fn nullable(tokens: &mut Tokens<'_>) -> Result<bool, Stop>
+    ensures { Reads (spec.nullable tokens.old) result tokens.new }
+{
+    if !tokens.eat_key(Keyword::KwNot) {
+        return Ok(true);
+    }
+    tokens.take_key(Keyword::KwNull)?;
+    Ok(false)
+}
+
+#[tactic(auto, unfolding(crate::specs::ReadStatements::column, crate::specs::Reading::take))]
+fn column(alloc: Global, tokens: &mut Tokens<'_>) -> Result<Column, Stop>
+    ensures { Reads (spec.column tokens.old) result tokens.new }
+{
+    let name = tokens.take_name(alloc)?;
+    let kind = tokens.taken(kind_of(tokens.peek()))?;
+    let nullable = nullable(tokens)?;
+    Ok(Column {
+        name,
+        kind,
+        nullable,
+    })
+}
+
+// The column after a comma, if one comes next.
+#[tactic(auto, unfolding(crate::specs::Reading::eat))]
+fn column_after_comma(alloc: Global, tokens: &mut Tokens<'_>) -> Result<Option<Column>, Stop>
+    ensures { Reads (after_comma spec.column tokens.old) result tokens.new }
+{
+    if tokens.eat_sign(Sign::Comma) {
+        Ok(Some(column(alloc, tokens)?))
+    } else {
+        Ok(None)
+    }
+}
+
+#[tactic(auto, using(crate::proofs::Turns::turns), unfolding(crate::specs::Reading::many))]
+fn columns_after_commas(alloc: Global, tokens: &mut Tokens<'_>) -> Result<ListOf<Column>, Stop>
+    ensures { Reads (many (after_comma spec.column) tokens.old) result tokens.new }
+{
+    let mut found = ListOf::new(alloc);
+    for _turn in 0..tokens.left() {
+        match column_after_comma(alloc, tokens)? {
+            Some(column) => found.push(column)?,
+            None => return Ok(found),
+        }
+    }
+    Ok(found)
+}
+
+// The columns of a table in their parentheses.
+#[tactic(auto, unfolding(crate::specs::ReadStatements::columns, crate::specs::ReadExprs::listed))]
+fn columns(alloc: Global, tokens: &mut Tokens<'_>) -> Result<ListOf<Column>, Stop>
+    ensures { Reads (spec.columns tokens.old) result tokens.new }
+{
+    tokens.take_sign(Sign::ParenOpen)?;
+    let first = column(alloc, tokens)?;
+    let rest = columns_after_commas(alloc, tokens)?;
+    tokens.take_sign(Sign::ParenClose)?;
+    Ok(first_and_rest(alloc, first, rest)?)
+}
+
+// `( name )`
+fn enclosed_name(alloc: Global, tokens: &mut Tokens<'_>) -> Result<Str, Stop>
+    ensures { Reads (enclosed (take name_of) tokens.old) result tokens.new }
+{
+    tokens.take_sign(Sign::ParenOpen)?;
+    let name = tokens.take_name(alloc)?;
+    tokens.take_sign(Sign::ParenClose)?;
+    Ok(name)
+}
+
+// The column by which a table is distributed, or None where it is replicated.
+#[tactic(auto, unfolding(crate::specs::ReadStatements::placing))]
+fn placing(alloc: Global, tokens: &mut Tokens<'_>) -> Result<Option<Str>, Stop>
+    ensures { Reads (spec.placing tokens.old) result tokens.new }
+{
+    if tokens.eat_word("hash") {
+        return Ok(Some(enclosed_name(alloc, tokens)?));
+    }
+    tokens.take_word("replicate")?;
+    Ok(None)
+}
+
+#[tactic(auto, unfolding(crate::specs::ReadStatements::distribution))]
+fn distribution(alloc: Global, tokens: &mut Tokens<'_>) -> Result<Option<Str>, Stop>
+    ensures { Reads (spec.distribution tokens.old) result tokens.new }
+{
+    tokens.take_word("distribution")?;
+    tokens.take_sign(Sign::Equal)?;
+    placing(alloc, tokens)
+}
+
+// `( DISTRIBUTION = placing )`
+fn enclosed_distribution(alloc: Global, tokens: &mut Tokens<'_>) -> Result<Option<Str>, Stop>
+    ensures { Reads (enclosed spec.distribution tokens.old) result tokens.new }
+{
+    tokens.take_sign(Sign::ParenOpen)?;
+    let hash = distribution(alloc, tokens)?;
+    tokens.take_sign(Sign::ParenClose)?;
+    Ok(hash)
+}
+
+// CREATE TABLE from the word WITH on.
+#[tactic(auto, unfolding(crate::specs::ReadStatements::create_with))]
+fn create_with(
+    alloc: Global,
+    tokens: &mut Tokens<'_>,
+    table: Str,
+    columns: ListOf<Column>,
+) -> Result<Statement, Stop>
+    ensures { Reads (spec.create_with table columns tokens.old) result tokens.new }
+{
+    tokens.take_key(Keyword::KwWith)?;
+    let hash = enclosed_distribution(alloc, tokens)?;
+    Ok(Statement::CreateNamed {
+        table,
+        columns,
+        hash,
+    })
+}
+
+#[tactic(auto, unfolding(crate::specs::ReadStatements::create))]
+fn create(alloc: Global, tokens: &mut Tokens<'_>) -> Result<Statement, Stop>
+    ensures { Reads (spec.create tokens.old) result tokens.new }
+{
+    tokens.take_key(Keyword::KwCreate)?;
+    tokens.take_key(Keyword::KwTable)?;
+    let table = tokens.take_name(alloc)?;
+    let columns = columns(alloc, tokens)?;
+    create_with(alloc, tokens, table, columns)
+}
+
+#[tactic(auto, unfolding(crate::specs::ReadStatements::drop_table))]
+fn drop_table(alloc: Global, tokens: &mut Tokens<'_>) -> Result<Statement, Stop>
+    ensures { Reads (spec.drop_table tokens.old) result tokens.new }
+{
+    tokens.take_key(Keyword::KwDrop)?;
+    tokens.take_key(Keyword::KwTable)?;
+    Ok(Statement::Drop(tokens.take_name(alloc)?))
+}
+
+#[tactic(auto, unfolding(crate::specs::ReadStatements::load))]
+fn load(alloc: Global, tokens: &mut Tokens<'_>) -> Result<Statement, Stop>
+    ensures { Reads (spec.load tokens.old) result tokens.new }
+{
+    tokens.take_word("load")?;
+    let table = tokens.take_name(alloc)?;
+    tokens.take_key(Keyword::KwFrom)?;
+    let file = tokens.take_text(alloc)?;
+    Ok(Statement::Load { table, file })
+}
+
+// What is said of a column.
+#[tactic(auto, unfolding(crate::specs::ReadStatements::column_statistics))]
+fn column_statistics(alloc: Global, tokens: &mut Tokens<'_>) -> Result<(Str, i64, i64), Stop>
+    ensures { Reads (spec.column_statistics tokens.old) result tokens.new }
+{
+    let column = tokens.take_name(alloc)?;
+    tokens.take_key(Keyword::KwDistinct)?;
+    let distinct = tokens.take_number()?;
+    tokens.take_word("width")?;
+    let width = tokens.take_number()?;
+    Ok((column, distinct, width))
+}
+
+#[tactic(auto, unfolding(crate::specs::Reading::eat))]
+fn statistics_after_comma(
+    alloc: Global,
+    tokens: &mut Tokens<'_>,
+) -> Result<Option<(Str, i64, i64)>, Stop>
+    ensures { Reads (after_comma spec.column_statistics tokens.old) result tokens.new }
+{
+    if tokens.eat_sign(Sign::Comma) {
+        Ok(Some(column_statistics(alloc, tokens)?))
+    } else {
+        Ok(None)
+    }
+}
+
+#[tactic(auto, using(crate::proofs::Turns::turns), unfolding(crate::specs::Reading::many))]
+fn statistics_after_commas(
+    alloc: Global,
+    tokens: &mut Tokens<'_>,
+) -> Result<ListOf<(Str, i64, i64)>, Stop>
+    ensures { Reads (many (after_comma spec.column_statistics) tokens.old) result tokens.new }
+{
+    let mut found = ListOf::new(alloc);
+    for _turn in 0..tokens.left() {
+        match statistics_after_comma(alloc, tokens)? {
+            Some(column) => found.push(column)?,
+            None => return Ok(found),
+        }
+    }
+    Ok(found)
+}
+
+// What is said of a table after WITH.
+#[tactic(auto, unfolding(crate::specs::ReadStatements::handed_statistics))]
+fn handed_statistics(
+    alloc: Global,
+    tokens: &mut Tokens<'_>,
+) -> Result<(i64, ListOf<(Str, i64, i64)>), Stop>
+    ensures { Reads (spec.handed_statistics tokens.old) result tokens.new }
+{
+    tokens.take_word("rows")?;
+    let rows = tokens.take_number()?;
+    let columns = statistics_after_commas(alloc, tokens)?;
+    Ok((rows, columns))
+}
+
+// Statistics of this table, which are handed over where WITH comes next.
+#[tactic(auto, unfolding(crate::specs::Reading::eat))]
+fn statistics_of(alloc: Global, tokens: &mut Tokens<'_>, table: Str) -> Result<Statement, Stop>
+    ensures { Reads (spec.statistics_from table tokens.old) result tokens.new }
+{
+    if !tokens.eat_key(Keyword::KwWith) {
+        return Ok(Statement::Measure(table));
+    }
+    let (rows, cols) = handed_statistics(alloc, tokens)?;
+    Ok(Statement::Hand { table, rows, cols })
+}
+
+#[tactic(auto, unfolding(crate::specs::ReadStatements::statistics))]
+fn statistics(alloc: Global, tokens: &mut Tokens<'_>) -> Result<Statement, Stop>
+    ensures { Reads (spec.statistics tokens.old) result tokens.new }
+{
+    tokens.take_key(Keyword::KwUpdate)?;
+    tokens.take_word("statistics")?;
+    let table = tokens.take_name(alloc)?;
+    statistics_of(alloc, tokens, table)
+}
+
+// A constant of the cost.
+#[tactic(auto, unfolding(crate::specs::Reading::take))]
+fn cost(tokens: &mut Tokens<'_>) -> Result<Statement, Stop>
+    ensures { Reads (spec.cost_of tokens.old) result tokens.new }
+{
+    tokens.take_word("cost")?;
+    let part = tokens.taken(cost_part_of(tokens.peek()))?;
+    let amount = tokens.take_number()?;
+    Ok(Statement::Cost { part, amount })
+}
+
+#[tactic(auto, unfolding(crate::specs::ReadStatements::setting))]
+fn setting(tokens: &mut Tokens<'_>) -> Result<Statement, Stop>
+    ensures { Reads (spec.setting tokens.old) result tokens.new }
+{
+    tokens.take_key(Keyword::KwSet)?;
+    if tokens.eat_word("budget") {
+        Ok(Statement::Budget(tokens.take_number()?))
+    } else {
+        cost(tokens)
+    }
+}
+
+impl<F: Fn(Global, &mut Tokens<'_>, usize, Wanted) -> Result<Content, Stop>> Grammar<F> {
+    #[tactic(auto, unfolding(crate::specs::ReadStatements::explain))]
+    fn explain(&self, tokens: &mut Tokens<'_>) -> Result<Statement, Stop>
+        requires { Nests self.now.depth (F.pre self.now.group) (F.post self.now.group) }
+        ensures { Reads (spec.explain (nested self.now.depth) tokens.old) result tokens.new }
+    {
+        tokens.take_word("explain")?;
+        if tokens.eat_word("json") {
+            Ok(Statement::ExplainJson(self.select(tokens)?))
+        } else {
+            Ok(Statement::Explain(self.select(tokens)?))
+        }
+    }
+
+    #[tactic(auto, unfolding(crate::specs::ReadStatements::profile))]
+    fn profile(&self, tokens: &mut Tokens<'_>) -> Result<Statement, Stop>
+        requires { Nests self.now.depth (F.pre self.now.group) (F.post self.now.group) }
+        ensures { Reads (spec.profile (nested self.now.depth) tokens.old) result tokens.new }
+    {
+        tokens.take_word("profile")?;
+        Ok(Statement::Profile(self.select(tokens)?))
+    }
+
+    #[tactic(auto, unfolding(crate::specs::ReadStatements::check_plan))]
+    fn check_plan(&self, tokens: &mut Tokens<'_>) -> Result<Statement, Stop>
+        requires { Nests self.now.depth (F.pre self.now.group) (F.post self.now.group) }
+        ensures { Reads (spec.check_plan (nested self.now.depth) tokens.old) result tokens.new }
+    {
+        tokens.take_word("check")?;
+        tokens.take_word("plan")?;
+        let file = tokens.take_text(self.alloc)?;
+        tokens.take_word("for")?;
+        let select = self.select(tokens)?;
+        Ok(Statement::CheckPlan { file, select })
+    }
+
+    // A statement that begins with this word, which is still to be taken.
+    #[tactic(auto, unfolding(crate::specs::ReadStatements::worded))]
+    fn worded(&self, tokens: &mut Tokens<'_>, word: &str) -> Result<Statement, Stop>
+        requires { Nests self.now.depth (F.pre self.now.group) (F.post self.now.group) }
+        ensures { Reads (spec.worded (nested self.now.depth) word.now tokens.old) result tokens.new }
+    {
+        match word {
+            "load" => load(self.alloc, tokens),
+            "explain" => self.explain(tokens),
+            "profile" => self.profile(tokens),
+            "check" => self.check_plan(tokens),
+            _ => Err(Stop::Syntax),
+        }
+    }
+
+    #[tactic(auto, unfolding(crate::specs::ReadStatements::statement))]
+    fn statement(&self, tokens: &mut Tokens<'_>) -> Result<Statement, Stop>
+        requires { Nests self.now.depth (F.pre self.now.group) (F.post self.now.group) }
+        ensures { Reads (spec.statement (nested self.now.depth) tokens.old) result tokens.new }
+    {
+        match tokens.peek() {
+            Some(Lexeme::Key(Keyword::KwCreate)) => create(self.alloc, tokens),
+            Some(Lexeme::Key(Keyword::KwDrop)) => drop_table(self.alloc, tokens),
+            Some(Lexeme::Key(Keyword::KwUpdate)) => statistics(self.alloc, tokens),
+            Some(Lexeme::Key(Keyword::KwSet)) => setting(tokens),
+            Some(Lexeme::Key(Keyword::KwSelect)) => Ok(Statement::Select(self.select(tokens)?)),
+            Some(Lexeme::Name(word)) => self.worded(tokens, word.text()),
+            _ => Err(Stop::Syntax),
+        }
+    }
+
+    // The next statement with its semicolon, if the script goes on.
+    #[tactic(auto, unfolding(crate::specs::ReadStatements::next_statement))]
+    fn next_statement(&self, tokens: &mut Tokens<'_>) -> Result<Option<Statement>, Stop>
+        requires { Nests self.now.depth (F.pre self.now.group) (F.post self.now.group) }
+        ensures { Reads (spec.next_statement (nested self.now.depth) tokens.old) result tokens.new }
+    {
+        if tokens.peek().is_none() {
+            return Ok(None);
+        }
+        let statement = self.statement(tokens)?;
+        tokens.take_sign(Sign::Semicolon)?;
+        Ok(Some(statement))
+    }
+
+    /// All statements of a script.
+    #[tactic(auto, using(crate::proofs::Turns::turns), unfolding(crate::specs::ReadStatements::script, crate::specs::Reading::many))]
+    pub fn script(&self, tokens: &mut Tokens<'_>) -> Result<ListOf<Statement>, Stop>
+        requires { Nests self.now.depth (F.pre self.now.group) (F.post self.now.group) }
+        ensures { Reads (spec.script (nested self.now.depth) tokens.old) result tokens.new }
+    {
+        let mut found = ListOf::new(self.alloc);
+        for _turn in 0..tokens.left() {
+            match self.next_statement(tokens)? {
+                Some(statement) => found.push(statement)?,
+                None => return Ok(found),
+            }
+        }
+        Ok(found)
+    }
+}

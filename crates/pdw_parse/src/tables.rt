@@ -1,0 +1,235 @@
+//! FROM.
+
+ghost use Rattle.std.specs.Prelude.{◌≡◌};
+ghost use Rattle.pdw_ast.specs.Lexemes as lexemes;
+ghost use Rattle.pdw_parse.specs.Levels.{Nests, nested};
+ghost use Rattle.pdw_parse.specs.ReadExprs.{after_comma};
+ghost use Rattle.pdw_parse.specs.ReadTables as spec;
+ghost use Rattle.pdw_parse.specs.Reading.{Reads, many, meaning_of, next, read};
+
+use crate::content::{Content, Source, Wanted};
+use crate::grammar::Grammar;
+use crate::lexemes::outer_of;
+use crate::lists::first_and_rest;
+use crate::parse_error::Stop;
+use crate::tokens::Tokens;
+use pdw_ast::{JoinPart, JoinWord, Primary, TableRef};
+use pdw_base::Str;
+use pdw_lex::{Keyword, Lexeme, Sign};
+use sqlite_items::{Boxed, Items as ListOf};
+use std::alloc::Global;
+
+/// `[ AS ] name`
+#[tactic(auto, unfolding(crate::specs::ReadTables::called))]
+pub fn called(alloc: Global, tokens: &mut Tokens<'_>) -> Result<Str, Stop>
+    ensures { Reads (spec.called tokens.old) result tokens.new }
+{
+    tokens.eat_key(Keyword::KwAs);
+    tokens.take_name(alloc)
+}
+
+// A name, which has to come where AS was written.
+fn alias_after(
+    alloc: Global,
+    tokens: &mut Tokens<'_>,
+    as_written: bool,
+) -> Result<Option<Str>, Stop>
+    ensures { Reads (spec.alias_by as_written (next tokens.old) tokens.old) result tokens.new }
+{
+    if let Some(Lexeme::Name(name)) = tokens.peek() {
+        tokens.advance();
+        return Ok(Some(name.try_copy(alloc)?));
+    }
+    if as_written {
+        Ok(Some(tokens.take_name(alloc)?))
+    } else {
+        Ok(None)
+    }
+}
+
+/// `[ [ AS ] name ]`
+#[tactic(auto, unfolding(crate::specs::ReadTables::alias))]
+pub fn alias(alloc: Global, tokens: &mut Tokens<'_>) -> Result<Option<Str>, Stop>
+    ensures { Reads (spec.alias tokens.old) result tokens.new }
+{
+    let as_written = tokens.eat_key(Keyword::KwAs);
+    alias_after(alloc, tokens, as_written)
+}
+
+// An outer join's side, after which OUTER may stand.
+fn outer_word(tokens: &mut Tokens<'_>) -> Option<JoinWord>
+    ensures { spec.outer_by (meaning_of lexemes.outer_of (next tokens.old)) tokens.old ≡ read result tokens.new }
+{
+    match outer_of(tokens.peek()) {
+        Some(side) => {
+            tokens.advance();
+            tokens.eat_key(Keyword::KwOuter);
+            Some(side)
+        }
+        None => None,
+    }
+}
+
+// Which join comes next, if any, up to its word JOIN.
+#[tactic(auto, unfolding(crate::specs::ReadTables::join_word))]
+fn join_word(tokens: &mut Tokens<'_>) -> Option<JoinWord>
+    ensures { spec.join_word tokens.old ≡ read result tokens.new }
+{
+    match tokens.peek() {
+        Some(Lexeme::Key(Keyword::KwCross)) => {
+            tokens.advance();
+            Some(JoinWord::Cross)
+        }
+        Some(Lexeme::Key(Keyword::KwInner)) => {
+            tokens.advance();
+            Some(JoinWord::Inner)
+        }
+        Some(Lexeme::Key(Keyword::KwJoin)) => Some(JoinWord::Inner),
+        _ => outer_word(tokens),
+    }
+}
+
+impl<F: Fn(Global, &mut Tokens<'_>, usize, Wanted) -> Result<Content, Stop>> Grammar<F> {
+    // What parentheses begin.
+    fn after_source(&self, tokens: &mut Tokens<'_>, inner: Source) -> Result<Primary, Stop>
+        ensures { Reads (spec.after_source (nested self.now.depth) inner tokens.old) result tokens.new }
+    {
+        match inner {
+            Source::Query(query) => {
+                let query = Boxed::new(self.alloc, query)?;
+                let alias = called(self.alloc, tokens)?;
+                Ok(Primary::Derived { query, alias })
+            }
+            Source::Tables(tables) => Ok(Primary::Paren(Boxed::new(self.alloc, tables)?)),
+        }
+    }
+
+    #[tactic(auto, unfolding(crate::specs::ReadTables::primary))]
+    fn primary(&self, tokens: &mut Tokens<'_>) -> Result<Primary, Stop>
+        requires { Nests self.now.depth (F.pre self.now.group) (F.post self.now.group) }
+        ensures { Reads (spec.primary (nested self.now.depth) tokens.old) result tokens.new }
+    {
+        if let Some(Lexeme::Name(name)) = tokens.peek() {
+            tokens.advance();
+            let table = name.try_copy(self.alloc)?;
+            let alias = alias(self.alloc, tokens)?;
+            return Ok(Primary::Named { table, alias });
+        }
+        let inner = self.source_group(tokens)?;
+        self.after_source(tokens, inner)
+    }
+
+    // The join of this table, whose condition is still to come unless the join is CROSS.
+    fn joined_by(
+        &self,
+        tokens: &mut Tokens<'_>,
+        word: JoinWord,
+        right: Primary,
+    ) -> Result<JoinPart, Stop>
+        requires { Nests self.now.depth (F.pre self.now.group) (F.post self.now.group) }
+        ensures { Reads (spec.joined_by (nested self.now.depth) word right tokens.old) result tokens.new }
+    {
+        if let JoinWord::Cross = word {
+            return Ok(JoinPart {
+                word,
+                right,
+                on: None,
+            });
+        }
+        tokens.take_key(Keyword::KwOn)?;
+        let on = self.cond(tokens)?;
+        Ok(JoinPart {
+            word,
+            right,
+            on: Some(on),
+        })
+    }
+
+    // The rest of a join of this kind, from its word JOIN on.
+    #[tactic(auto, unfolding(crate::specs::ReadTables::joined))]
+    fn joined(&self, tokens: &mut Tokens<'_>, word: JoinWord) -> Result<JoinPart, Stop>
+        requires { Nests self.now.depth (F.pre self.now.group) (F.post self.now.group) }
+        ensures { Reads (spec.joined (nested self.now.depth) word tokens.old) result tokens.new }
+    {
+        tokens.take_key(Keyword::KwJoin)?;
+        let right = self.primary(tokens)?;
+        self.joined_by(tokens, word, right)
+    }
+
+    // The join that comes next, if any.
+    #[tactic(auto, unfolding(crate::specs::ReadTables::join))]
+    fn join(&self, tokens: &mut Tokens<'_>) -> Result<Option<JoinPart>, Stop>
+        requires { Nests self.now.depth (F.pre self.now.group) (F.post self.now.group) }
+        ensures { Reads (spec.join (nested self.now.depth) tokens.old) result tokens.new }
+    {
+        match join_word(tokens) {
+            Some(word) => Ok(Some(self.joined(tokens, word)?)),
+            None => Ok(None),
+        }
+    }
+
+    #[tactic(auto, using(crate::proofs::Turns::turns), unfolding(crate::specs::Reading::many))]
+    fn joins(&self, tokens: &mut Tokens<'_>) -> Result<ListOf<JoinPart>, Stop>
+        requires { Nests self.now.depth (F.pre self.now.group) (F.post self.now.group) }
+        ensures { Reads (many (spec.join (nested self.now.depth)) tokens.old) result tokens.new }
+    {
+        let mut found = ListOf::new(self.alloc);
+        for _turn in 0..tokens.left() {
+            match self.join(tokens)? {
+                Some(join) => found.push(join)?,
+                None => return Ok(found),
+            }
+        }
+        Ok(found)
+    }
+
+    /// A table, and those that are joined to it.
+    #[tactic(auto, unfolding(crate::specs::ReadTables::table_reference))]
+    pub fn table_reference(&self, tokens: &mut Tokens<'_>) -> Result<TableRef, Stop>
+        requires { Nests self.now.depth (F.pre self.now.group) (F.post self.now.group) }
+        ensures { Reads (spec.table_reference (nested self.now.depth) tokens.old) result tokens.new }
+    {
+        let first = self.primary(tokens)?;
+        let joins = self.joins(tokens)?;
+        Ok(TableRef { first, joins })
+    }
+
+    // The table reference after a comma, if one comes next.
+    #[tactic(auto, unfolding(crate::specs::Reading::eat))]
+    fn table_after_comma(&self, tokens: &mut Tokens<'_>) -> Result<Option<TableRef>, Stop>
+        requires { Nests self.now.depth (F.pre self.now.group) (F.post self.now.group) }
+        ensures { Reads (after_comma (spec.table_reference (nested self.now.depth)) tokens.old) result tokens.new }
+    {
+        if tokens.eat_sign(Sign::Comma) {
+            Ok(Some(self.table_reference(tokens)?))
+        } else {
+            Ok(None)
+        }
+    }
+
+    #[tactic(auto, using(crate::proofs::Turns::turns), unfolding(crate::specs::Reading::many))]
+    fn tables_after_commas(&self, tokens: &mut Tokens<'_>) -> Result<ListOf<TableRef>, Stop>
+        requires { Nests self.now.depth (F.pre self.now.group) (F.post self.now.group) }
+        ensures { Reads (many (after_comma (spec.table_reference (nested self.now.depth))) tokens.old) result tokens.new }
+    {
+        let mut found = ListOf::new(self.alloc);
+        for _turn in 0..tokens.left() {
+            match self.table_after_comma(tokens)? {
+                Some(table) => found.push(table)?,
+                None => return Ok(found),
+            }
+        }
+        Ok(found)
+    }
+
+    /// Table references with commas between them.
+    #[tactic(auto, unfolding(crate::specs::ReadTables::tables, crate::specs::ReadExprs::listed))]
+    pub fn tables(&self, tokens: &mut Tokens<'_>) -> Result<ListOf<TableRef>, Stop>
+        requires { Nests self.now.depth (F.pre self.now.group) (F.post self.now.group) }
+        ensures { Reads (spec.tables (nested self.now.depth) tokens.old) result tokens.new }
+    {
+        let first = self.table_reference(tokens)?;
+        let rest = self.tables_after_commas(tokens)?;
+        Ok(first_and_rest(self.alloc, first, rest)?)
+    }
+}
