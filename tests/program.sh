@@ -14,7 +14,12 @@ LOAD t FROM 't.csv';
 SELECT * FROM t;
 SCRIPT
 printf '4,x\n\\N,y\n' >t.csv
-head -n 2 s.sql >two_lines.sql
+printf 'SELECT a FROM' >cut_off.sql
+: >empty.sql
+{
+    cat s.sql
+    echo 'SELECT a FROM t; DROP TABLE t;'
+} >not_built.sql
 sed 's/t.csv/none.csv/' s.sql >no_file.sql
 
 # A name, the wanted status, the wanted output, and then the words.
@@ -47,7 +52,9 @@ sed 's/t.csv/many.csv/; s/, b TEXT//' s.sql >many.sql
 "$top/pdw" run >/dev/null 2>&1 # builds it, where that is still to be done
 expect done 0 "$(printf 'OK\nLOADED 2\na,b\nNULL,"y"\n4,"x"\nROWS 2')" "$top/pdw" run 3 s.sql
 expect 'one node' 0 "$(printf 'OK\nLOADED 2\na,b\n4,"x"\nNULL,"y"\nROWS 2')" "$top/pdw" run 1 s.sql
-expect refused 1 'REFUSED E6 SYNTAX AT 83' "$top/pdw" run 3 two_lines.sql
+expect 'an empty script' 0 '' "$top/pdw" run 3 empty.sql
+expect refused 1 'REFUSED E6 SYNTAX AT 13' "$top/pdw" run 3 cut_off.sql
+expect 'not built' 1 "$(printf 'OK\nLOADED 2\na,b\n4,"x"\nNULL,"y"\nROWS 2\nREFUSED E19 STATEMENT 4 NOTBUILT')" "$top/pdw" run 1 not_built.sql
 expect 'no words' 2 '' "$top/pdw"
 expect 'no nodes' 2 '' "$top/pdw" run 0 s.sql
 expect 'too many nodes' 2 '' "$top/pdw" run 17 s.sql

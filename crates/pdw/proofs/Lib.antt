@@ -1,12 +1,9 @@
 pub mod WordLemmas
 pub mod TextLemmas
-pub mod PlainLemmas
+pub mod ReadingLemmas
+pub mod JudgeLemmas
 pub mod NameLemmas
-pub mod ColumnLemmas
-pub mod TableLemmas
-pub mod CreateLemmas
-pub mod LoadLemmas
-pub mod ScriptLemmas
+pub mod PlainLemmas
 pub mod RunLemmas
 pub mod CompleteLemmas
 pub mod WholeLemmas

@@ -1,31 +1,31 @@
 -- Statements that are executed one after the other.
 use Rattle.std.proofs.Common.{◌≡◌, ℕ, ◌+◌, ◌<◌, List, [], ◌∷◌, length, drop, get_or, refl, sym, ap, subst, inl, inr, append_assoc, append-nil, Option, None, Some}
 use Rattle.pdw_base.proofs.Steps.{drop-one_more}
-use Rattle.pdw_catalog.specs.Appliance.{Contents}
-use Rattle.pdw_catalog.specs.Catalog.{Tables}
 use Rattle.pdw_outside.specs.Whole.{IsContent}
-use Rattle.pdw.specs.declared.statement.Statement.{Statement}
-use Rattle.pdw.specs.declared.statement.Statement.TheVariants.{Create, Load, Select}
-use Rattle.pdw.specs.Output.{End, Cut, Refused, Stopped, EndsIn, EndsLine, Gives, Held, Refuses, Writes}
-use Rattle.pdw.specs.Perform.{CanPerform}
+use Rattle.pdw_ast.specs.declared.statement.Statement.{Statement}
+use Rattle.pdw.specs.declared.task.Task.{Task}
+use Rattle.pdw.specs.declared.task.Task.TheVariants as task
+use Rattle.pdw.specs.Output.{Does, End, Cut, Refused, Stopped, EndsIn, EndsLine, Gives, Held, Refuses, Writes}
+use Rattle.pdw.specs.Perform.{HaveOwnNames}
 use Rattle.pdw.specs.Plain.{Plain}
 use Rattle.pdw.specs.Trace.{Trace, cut_at, followed_by, nothing, prints}
 use Rattle.pdw.specs.declared.status.Status.{Status}
 use Rattle.pdw.specs.declared.status.Status.TheVariants as status
-use Rattle.pdw.specs.Run.{CanRun, EndsBy, EndsRefused, Steps}
+use Rattle.pdw.specs.Run.{EndsBy, EndsRefused, Steps}
+use Rattle.pdw.proofs.JudgeLemmas.{IsReady, IsReady-judged}
+use Rattle.pdw.proofs.NameLemmas.{HaveOwnNames-pushed, HaveOwnNames-removed}
 
--- the first of statements that can run can be executed
-pub CanPerform-first : (contents : Contents) (statement : Statement) (statements : List Statement) → CanRun contents.tables (statement ∷ statements) → CanPerform contents statement
-CanPerform-first contents (Create table) statements can = record { new = can.0; shape = can.1; room = can.2 }
-CanPerform-first contents (Load name file) statements can = can.0
-CanPerform-first contents (Select name) statements can = can.0
+-- a task leaves tables with names of their own
+HaveOwnNames-does : (held : Held) (old new : Plain) (work : Task) (trace : Trace) → HaveOwnNames old.tables → IsReady old.tables work → Does held old work trace new → HaveOwnNames new.tables
+HaveOwnNames-does held old new (task.Create table) trace own ready does = subst HaveOwnNames (sym does.1.tables) (HaveOwnNames-pushed table.name table old.tables ready.0 own)
+HaveOwnNames-does held old new (task.Drop name) trace own ready does = subst HaveOwnNames (sym does.1.tables) (HaveOwnNames-removed name old.tables own)
+HaveOwnNames-does held old new (task.Load name file) trace own ready does = subst HaveOwnNames (sym does.2.gained.tables) own
+HaveOwnNames-does held old new (task.Select name) trace own ready does = subst HaveOwnNames (sym does.same.tables) own
 
--- and the others can run in the state that it leaves
-pub CanRun-rest : (held : Held) (old new : Plain) (statement : Statement) (statements : List Statement) (trace : Trace)
-    → CanRun old.tables (statement ∷ statements) → Gives held old statement trace new → CanRun new.tables statements
-CanRun-rest held old new (Create table) statements trace can gives = subst (λ tables. CanRun tables statements) (sym gives.1.tables) can.3
-CanRun-rest held old new (Load name file) statements trace can gives = subst (λ tables. CanRun tables statements) (sym gives.2.gained.tables) can.1
-CanRun-rest held old new (Select name) statements trace can gives = subst (λ tables. CanRun tables statements) (sym gives.same.tables) can.1
+-- and so does a statement
+pub HaveOwnNames-gives : (held : Held) (old new : Plain) (statement : Statement) (trace : Trace) → HaveOwnNames old.tables → Gives held old statement trace new → HaveOwnNames new.tables
+HaveOwnNames-gives held old new statement trace own gives =
+    HaveOwnNames-does held old new gives.task trace own (IsReady-judged old.tables statement gives.task gives.right) gives.does
 
 followed_by-assoc : (first second third : Trace) → followed_by (followed_by first second) third ≡ followed_by first (followed_by second third)
 followed_by-assoc first second third = ap prints (append_assoc first.text second.text third.text)
@@ -35,9 +35,6 @@ followed_by-nothing trace = ap prints (append-nil trace.text)
 
 -- what is left of the statements at a place of the loop
 module _ (statements : List Statement) (place : ℕ) (statement : Statement) (within : place < length statements) (item : statement ≡ get_or statements place statement) where
-  pub CanRun-here : (tables : Tables) → CanRun tables (drop place statements) → CanRun tables (statement ∷ drop (place + 1) statements)
-  CanRun-here tables can = subst (CanRun tables) (drop-one_more statements place statement within item) can
-
   -- the text of one statement, put behind what was written before, is written by the statements so far
   pub Writes-more : (held : Held) (first state next : Plain) (all : List Statement) (done trace : Trace)
       → ((end : End) (rest : Trace) → Writes held (place + 1) state (drop place statements) end rest → Writes held 1 first all end (followed_by done rest))

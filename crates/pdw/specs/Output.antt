@@ -1,5 +1,5 @@
 -- The lawful outputs of a script.
-use Rattle.std.specs.Prelude.{◌≡◌, ◌⊎◌, ℕ, ◌+◌, ◌≤◌, ◌<◌, List, [], ◌∷◌, ◌++◌, length, map, codes, Option, Some}
+use Rattle.std.specs.Prelude.{◌≡◌, ◌⊎◌, ℕ, ◌+◌, ◌≤◌, ◌<◌, List, [], ◌∷◌, ◌++◌, length, map, codes, Option, Some, Ok, Err}
 use Rattle.std.specs.List.Sorted.{IsPermutation}
 use Rattle.pdw_catalog.specs.declared.table.Table.{Table}
 use Rattle.pdw_catalog.specs.Table.{Row, most_rows}
@@ -8,14 +8,18 @@ use Rattle.pdw_outside.specs.Faults.{Rose}
 use Rattle.pdw_outside.specs.Whole.{IsContent}
 use Rattle.pdw_load.specs.Records.{records_of, faults_of, rows_of}
 use Rattle.pdw_load.specs.declared.load_error.LoadError.{LoadError}
-use Rattle.pdw.specs.declared.statement.Statement.{Statement}
-use Rattle.pdw.specs.declared.statement.Statement.TheVariants.{Create, Load, Select}
+use Rattle.pdw_ast.specs.declared.statement.Statement.{Statement}
+use Rattle.pdw.specs.declared.task.Task.{Task}
+use Rattle.pdw.specs.declared.task.Task.TheVariants.{Create, Drop, Load, Select}
+use Rattle.pdw.specs.declared.refusal.Refusal.{Refusal}
 use Rattle.pdw.specs.declared.refusal.TheConstants.{MOST_FILE_BYTES, MOST_SCRIPT_BYTES}
 use Rattle.pdw.specs.declared.status.Status.{Status}
 use Rattle.pdw.specs.declared.status.Status.TheVariants as status
-use Rattle.pdw.specs.Plain.{Plain, SamePlain, start, with_table, with_rows}
-use Rattle.pdw.specs.Refusal.{long_script_line, syntax_line, limit_line, fault_line}
-use Rattle.pdw.specs.Script.{Spells, FaultAt}
+use Rattle.pdw.specs.Judge.{judged}
+use Rattle.pdw.specs.Plain.{Plain, SamePlain, start, with_table, without_table, with_rows}
+use Rattle.pdw.specs.Reading.{IsScript, IsTextFault}
+use Rattle.pdw.specs.Refusal.{long_script_line, limit_line, fault_line}
+use Rattle.pdw.specs.RefusalLine.{refusal_line}
 use Rattle.pdw.specs.Text.{done_text, loaded_text, rows_text}
 use Rattle.pdw.specs.Trace.{Trace, cut_at, followed_by, nothing, prints}
 use Rattle.pdw.specs.Words.{AskRun, HaveNoForm}
@@ -45,11 +49,18 @@ pub record Selects (old : Plain) (name : List ℕ) (trace : Trace) (new : Plain)
   pub printed : trace ≡ prints (rows_text (map (λ column. column.name) table.columns) rows)
   pub same : SamePlain old new
 
--- a statement in a state leaves this trace and that state
-abbrev pub Gives : Held → Plain → Statement → Trace → Plain → Type 0
-Gives held old (Create table) trace new = (trace ≡ prints done_text) × SamePlain (with_table table old) new
-Gives held old (Load name file) trace new = (content : List ℕ) × IsContent (held file) content × LoadsContent old name content trace new
-Gives held old (Select name) trace new = Selects old name trace new
+-- what was judged is done in a state, and leaves this trace and that state
+abbrev pub Does : Held → Plain → Task → Trace → Plain → Type 0
+Does held old (Create table) trace new = (trace ≡ prints done_text) × SamePlain (with_table table old) new
+Does held old (Drop name) trace new = (trace ≡ prints done_text) × SamePlain (without_table name old) new
+Does held old (Load name file) trace new = (content : List ℕ) × IsContent (held file) content × LoadsContent old name content trace new
+Does held old (Select name) trace new = Selects old name trace new
+
+-- a statement in a state leaves this trace and that state: it is judged to be without fault, and done
+pub record Gives (held : Held) (old : Plain) (statement : Statement) (trace : Trace) (new : Plain) : Type 0 where
+  pub task : Task
+  pub right : judged old.tables statement ≡ Ok task
+  pub does : Does held old task trace new
 
 -- why a file is not loaded: its length, or else its first faulty record, or else the limit of the table's rows
 abbrev pub LoadFault : ℕ → Plain → List ℕ → Table → List ℕ → List ℕ → Type 0
@@ -65,17 +76,28 @@ pub record RefusesContent (k : ℕ) (old : Plain) (name content : List ℕ) (lin
   pub there : table_named name old.tables ≡ Some table
   pub fault : LoadFault k old name table content line
 
--- statement k is refused in a state, by this line
-abbrev pub Refuses : Held → ℕ → Plain → Statement → List ℕ → Type 0
-Refuses held k old (Create table) line = ⊥
-Refuses held k old (Load name file) line = (content : List ℕ) × IsContent (held file) content × RefusesContent k old name content line
-Refuses held k old (Select name) line = ⊥
+-- what was judged can't be done as statement k, by this line
+abbrev pub Fails : Held → ℕ → Plain → Task → List ℕ → Type 0
+Fails held k old (Create table) line = ⊥
+Fails held k old (Drop name) line = ⊥
+Fails held k old (Load name file) line = (content : List ℕ) × IsContent (held file) content × RefusesContent k old name content line
+Fails held k old (Select name) line = ⊥
 
--- a statement wants a file
-abbrev pub Wants : Statement → List ℕ → Type 0
-Wants (Create table) file = ⊥
-Wants (Load name wanted) file = wanted ≡ file
-Wants (Select name) file = ⊥
+-- statement k is refused in a state, by this line: it is judged to have this fault, or fails when it is done
+abbrev pub Refuses : Held → ℕ → Plain → Statement → List ℕ → Type 0
+Refuses held k old statement line =
+    ((fault : Refusal) × (judged old.tables statement ≡ Err fault) × (line ≡ refusal_line k fault))
+    ⊎ ((task : Task) × (judged old.tables statement ≡ Ok task) × Fails held k old task line)
+
+abbrev pub WantsFile : Task → List ℕ → Type 0
+WantsFile (Create table) file = ⊥
+WantsFile (Drop name) file = ⊥
+WantsFile (Load name wanted) file = wanted ≡ file
+WantsFile (Select name) file = ⊥
+
+-- a statement in a state wants a file: it is judged to be without fault
+abbrev pub Wants : Plain → Statement → List ℕ → Type 0
+Wants old statement file = (task : Task) × (judged old.tables statement ≡ Ok task) × WantsFile task file
 
 -- ---- how a script ends
 
@@ -111,7 +133,7 @@ Says held k old statement trace = ((new : Plain) × Gives held old statement tra
 abbrev pub EndsIn : Held → ℕ → Plain → Statement → End → Trace → Type 0
 EndsIn held k old statement Finished out = ⊥
 EndsIn held k old statement Refused out = (line : List ℕ) × Refuses held k old statement line × (out ≡ prints line)
-EndsIn held k old statement (Unread file) out = Wants statement file × (out ≡ nothing)
+EndsIn held k old statement (Unread file) out = Wants old statement file × (out ≡ nothing)
 EndsIn held k old statement Cut out = (trace : Trace) × (count : ℕ) × Says held k old statement trace × (out ≡ cut_at count trace)
 EndsIn held k old statement Stopped out = out ≡ nothing
 
@@ -123,17 +145,12 @@ Writes held k old (statement ∷ statements) end out =
     EndsIn held k old statement end out
     ⊎ ((trace rest : Trace) × (new : Plain) × Gives held old statement trace new × Writes held (k + 1) new statements end rest × (out ≡ followed_by trace rest))
 
--- the statements of a script of three lines
-abbrev pub statements_of : Table → List ℕ → List Statement
-statements_of table file = Create table ∷ Load table.name file ∷ Select table.name ∷ []
-
 -- what the bytes of a script write: the line of a text fault alone, or what its statements write; nothing where memory was wanted to tell which
 abbrev pub ScriptWrites : Held → ℕ → List ℕ → End → Trace → Type 0
 ScriptWrites held nodes script end out =
     ((MOST_SCRIPT_BYTES < length script) × EndsLine end long_script_line out)
-    ⊎ ((length script ≤ MOST_SCRIPT_BYTES) × (at : ℕ) × FaultAt script at × EndsLine end (syntax_line at) out)
-    ⊎ ((length script ≤ MOST_SCRIPT_BYTES) × (table : Table) × (file : List ℕ) × Spells script table file
-    × Writes held 1 (start nodes) (statements_of table file) end out)
+    ⊎ ((length script ≤ MOST_SCRIPT_BYTES) × (line : List ℕ) × IsTextFault script line × EndsLine end line out)
+    ⊎ ((length script ≤ MOST_SCRIPT_BYTES) × (statements : List Statement) × IsScript script statements × Writes held 1 (start nodes) statements end out)
     ⊎ ((end ≡ Stopped) × (out ≡ nothing))
 
 -- what the script of a name writes; nothing where it was not read

@@ -1,5 +1,6 @@
 -- The plain state of a script: its tables with all their rows, wherever these stand.
 use Rattle.std.specs.Prelude.{◌≡◌, ℕ, List, [], ◌∷◌, ◌++◌, if◌then◌else◌}
+use Rattle.std.specs.Map.{remove_entry}
 use Rattle.std.specs.Str.{bytes_eq}
 use Rattle.pdw_base.specs.SameBag.{SameBag}
 use Rattle.pdw_catalog.specs.declared.table.Table.{Table}
@@ -34,6 +35,10 @@ rows_with name changed rows other = if bytes_eq other name then changed else row
 -- a new table is the last, and has no rows
 abbrev pub with_table : Table → Plain → Plain
 with_table table state = record state { tables = state.tables ++ (table.name, table) ∷ []; rows = rows_with table.name [] state.rows }
+
+-- a table is gone with its rows, and the others keep their order
+abbrev pub without_table : List ℕ → Plain → Plain
+without_table name state = record state { tables = remove_entry (bytes_eq name) state.tables; rows = rows_with name [] state.rows }
 
 -- a table has these rows more
 abbrev pub with_rows : List ℕ → List Row → Plain → Plain

@@ -1,34 +1,44 @@
--- Where the pieces of a script end.
-use Rattle.std.specs.Prelude.{◌≡◌, ℕ, ◌≤◌, ◌==◌, ◌||◌, Bool, true, false, not, List, [], ◌∷◌, length, codes}
-use Rattle.std.specs.List.{AllByRecursion, join_by}
-use Rattle.pdw_catalog.specs.declared.table.Column.{Column}
-use Rattle.pdw_catalog.specs.declared.table.TheConstants.{MOST_COLUMNS}
-use Rattle.pdw.specs.Script.{is_name_byte, column_text, IsWritten}
+-- What the bytes of a script say: its statements, or its first fault.
+use Rattle.std.specs.Prelude.{◌≡◌, ℕ, List, length, Option, Some}
+use Rattle.std.specs.Str.{IsUtf8}
+use Rattle.pdw_ast.specs.declared.statement.Statement.{Statement}
+use Rattle.pdw_lex.specs.Lexes.{Lexes}
+use Rattle.pdw_lex.specs.Fault.{IsFault as IsLexFault}
+use Rattle.pdw_lex.specs.declared.token.Token.{Token}
+use Rattle.pdw_parse.specs.Fault.{IsFault as IsParseFault}
+use Rattle.pdw_parse.specs.Spells.{Spells}
+use Rattle.pdw_parse.specs.Tokens.{lexemes}
+use Rattle.pdw_parse.specs.declared.parse_error.ParseError.{ParseError}
+use Rattle.pdw.specs.Refusal.{lex_line, parse_line}
+use Rattle.pdw.specs.declared.reading.ScriptError.{ScriptError}
+use Rattle.pdw.specs.declared.reading.ScriptError.TheVariants.{Tokens, Statements}
 
--- a name may end before these bytes
-abbrev pub ends_name : List ℕ → Bool
-ends_name [] = true
-ends_name (c ∷ cs) = not (is_name_byte c)
+-- the bytes are in UTF-8 and have tokens, and what these say are the statements
+pub record IsScript (script : List ℕ) (statements : List Statement) : Type 0 where
+  pub tokens : List Token
+  pub utf8 : IsUtf8 script
+  pub lexed : Lexes 0 script tokens
+  pub spelled : Spells (lexemes tokens) statements
 
--- a column ends before a comma and before the bracket that closes the list
-abbrev pub ends_column : List ℕ → Bool
-ends_column [] = false
-ends_column (c ∷ cs) = (c == 44) || (c == 41)
+-- the bytes have tokens, and the error says the first fault of these
+pub record HasParseFault (script : List ℕ) (error : ParseError) : Type 0 where
+  pub tokens : List Token
+  pub utf8 : IsUtf8 script
+  pub lexed : Lexes 0 script tokens
+  pub fault : IsParseFault tokens (length script) error
 
--- the columns end before that bracket
-abbrev pub EndsColumns : List ℕ → Type 0
-EndsColumns bytes = (rest : List ℕ) × (bytes ≡ 41 ∷ rest)
+-- the error says the first fault of the bytes, or of their tokens where they have tokens; or memory was wanted
+abbrev pub HasFault : List ℕ → ScriptError → Type 0
+HasFault script (Tokens error) = IsLexFault script error
+HasFault script (Statements error) = HasParseFault script error
 
--- the columns of a table, as the first line writes them
-abbrev pub columns_text : List Column → List ℕ
-columns_text = join_by column_text (codes ", ")
+-- the line that names the fault; want of memory is none
+abbrev pub script_line : ScriptError → Option (List ℕ)
+script_line (Tokens error) = lex_line error
+script_line (Statements error) = parse_line error
 
--- 1 to 32 columns that a script can write
-pub record AreColumns (columns : List Column) : Type 0 where
-  pub some : 1 ≤ length columns
-  pub most : length columns ≤ MOST_COLUMNS
-  pub written : AllByRecursion IsWritten columns
-
--- a byte that may stand in a file name
-abbrev pub is_file_byte : ℕ → Bool
-is_file_byte c = not ((c == 39) || (c == 10))
+-- this line names the first fault of the script's text
+pub record IsTextFault (script line : List ℕ) : Type 0 where
+  pub error : ScriptError
+  pub fault : HasFault script error
+  pub named : script_line error ≡ Some line

@@ -1,25 +1,13 @@
 -- What the parts of a run leave: the end that their status tells, what was written, and the counts of faults.
-use Rattle.std.specs.Prelude.{◌≡◌, ⊤, ℕ, ◌<◌, List, [], ◌∷◌, ◌++◌, length, take, Option, None, IsSome}
-use Rattle.pdw_catalog.specs.Appliance.{IsTable}
-use Rattle.pdw_catalog.specs.Catalog.{Tables, table_named}
-use Rattle.pdw_catalog.specs.declared.table.TheConstants.{MOST_TABLES}
+use Rattle.std.specs.Prelude.{◌≡◌, ℕ, List, take, Option}
+use Rattle.pdw_ast.specs.declared.statement.Statement.{Statement}
 use Rattle.pdw_outside.specs.Faults.{Rose}
 use Rattle.pdw_outside.specs.Sink.{Adds}
-use Rattle.pdw.specs.declared.statement.Statement.{Statement}
-use Rattle.pdw.specs.declared.statement.Statement.TheVariants.{Create, Load, Select}
 use Rattle.pdw.specs.declared.status.Status.{Status}
 use Rattle.pdw.specs.declared.status.Status.TheVariants as status
 use Rattle.pdw.specs.Output.{End, EndsIn, Gives, Held, Tells}
 use Rattle.pdw.specs.Plain.{Plain}
 use Rattle.pdw.specs.Trace.{Trace}
-
--- statements that can be executed one after the other: each makes a new table, or finds its table there
-abbrev pub CanRun : Tables → List Statement → Type 0
-CanRun tables [] = ⊤
-CanRun tables (Create table ∷ statements) =
-    (table_named table.name tables ≡ None) × IsTable table × (length tables < MOST_TABLES) × CanRun (tables ++ (table.name, table) ∷ []) statements
-CanRun tables (Load name file ∷ statements) = IsSome (table_named name tables) × CanRun tables statements
-CanRun tables (Select name ∷ statements) = IsSome (table_named name tables) × CanRun tables statements
 
 -- the line of a refusal was written, or cut where the sink failed
 abbrev pub EndsRefused : Status → Option (List ℕ) → Option (List ℕ) → ℕ → ℕ → List ℕ → Type 0

@@ -1,15 +1,16 @@
 //! The appliance as a program: a script of statements in, rows out.
 #![tactic(auto)]
 
+mod judge;
 pub mod laws;
 mod perform;
+mod reading;
 mod refusal;
 pub mod run;
-mod script;
-mod statement;
 pub mod status;
 mod step;
 mod stop;
+mod task;
 #[cfg(test)]
 mod tests;
 mod text;

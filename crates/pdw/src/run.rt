@@ -1,42 +1,25 @@
 //! The whole run: the words, the script, its statements.
 
-ghost use Rattle.std.specs.Prelude.{◌≡◌, ◌≤◌, ◌⊎◌, ℕ, List, [], length, IfOk};
+ghost use Rattle.std.specs.Prelude.{◌≡◌, ◌≤◌, ◌⊎◌, length};
 ghost use Rattle.pdw_outside.specs.Faults.{Rose};
 ghost use Rattle.pdw_outside.specs.Sink.{Adds};
-ghost use Rattle.pdw.specs.Output.{CountsWriting, Lawful, MeetsNoFault, Outputs, SameReading, ScriptWrites, Writes, statements_of};
+ghost use Rattle.pdw.specs.Output.{CountsWriting, Lawful, MeetsNoFault, Outputs, SameReading, ScriptWrites, Writes};
 ghost use Rattle.pdw.specs.Plain.{start};
-ghost use Rattle.pdw.specs.Run.{CanRun, EndsBy};
+ghost use Rattle.pdw.specs.Run.{EndsBy};
 ghost use Rattle.pdw.specs.Trace.{Trace};
 ghost use Rattle.pdw.specs.Words.{HaveNoForm};
 ghost use Rattle.pdw.specs.declared.status.Status.TheVariants as status;
 
-use crate::refusal::{MOST_SCRIPT_BYTES, long_script, syntax};
-use crate::script::{Script, ScriptError, parse};
-use crate::statement::Statement;
+use crate::reading::read_script;
+use crate::refusal::{MOST_SCRIPT_BYTES, long_script};
 use crate::status::Status;
 use crate::step::{refuse, run_statements};
 use crate::words;
-use pdw_base::{NoMemory, NodeCount, Str};
+use pdw_ast::Statement;
+use pdw_base::{NodeCount, Str};
 use pdw_catalog::Appliance;
 use pdw_outside::{Files, ReadStop, Sink, read_whole};
 use std::alloc::Global;
-
-// The statements of a script, in order.
-fn statements(alloc: Global, script: Script) -> Result<Vec<Statement>, NoMemory>
-    ensures { IfOk result (λ statements. statements.items ≡ statements_of script.table script.file) }
-{
-    let Script { table, file } = script;
-    let loaded = table.name.try_copy(alloc)?;
-    let selected = table.name.try_copy(alloc)?;
-    let mut statements = Vec::new(alloc);
-    statements.push(Statement::Create(table))?;
-    statements.push(Statement::Load {
-        table: loaded,
-        file,
-    })?;
-    statements.push(Statement::Select(selected))?;
-    Ok(statements)
-}
 
 // Executes statements over an appliance without tables.
 fn run_anew<F: Files, S: Sink>(
@@ -46,7 +29,6 @@ fn run_anew<F: Files, S: Sink>(
     files: &mut F,
     out: &mut S,
 ) -> Status
-    requires { CanRun [] statements.now }
     ensures lawful { EndsBy result (F.faults files.old) (F.faults files.new) (Writes (F.bytes files.old) 1 (start nodes) statements.now) (S.written out.old) (S.written out.new) }
     ensures reading { SameReading result (F.faults files.old) (F.faults files.new) }
     ensures writing { CountsWriting result (S.faults out.old) (S.faults out.new) }
@@ -72,16 +54,12 @@ fn run_bytes<F: Files, S: Sink>(
     ensures writing { CountsWriting result (S.faults out.old) (S.faults out.new) }
     ensures bytes { F.bytes files.new ≡ F.bytes files.old }
 {
-    match parse(alloc, script) {
-        Ok(read) => match statements(alloc, read) {
-            Ok(statements) => run_anew(alloc, nodes, statements.as_slice(), files, out),
-            Err(_) => Status::Memory,
-        },
-        Err(ScriptError::Syntax { at }) => match syntax(alloc, at) {
+    match read_script(alloc, script) {
+        Ok(statements) => run_anew(alloc, nodes, statements.as_slice(), files, out),
+        Err(error) => match error.line(alloc) {
             Ok(line) => refuse(out, line.as_str()),
             Err(_) => Status::Memory,
         },
-        Err(ScriptError::Memory) => Status::Memory,
     }
 }
 

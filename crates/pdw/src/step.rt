@@ -2,14 +2,14 @@
 
 ghost use Rattle.std.specs.Prelude.{◌≡◌};
 ghost use Rattle.pdw.specs.Output.{CountsWriting, SameReading, Writes};
-ghost use Rattle.pdw.specs.Perform.{CanPerform};
+ghost use Rattle.pdw.specs.Perform.{HaveOwnNames};
 ghost use Rattle.pdw.specs.Plain.{plain_of};
-ghost use Rattle.pdw.specs.Run.{CanRun, EndsBy, EndsRefused, Steps};
+ghost use Rattle.pdw.specs.Run.{EndsBy, EndsRefused, Steps};
 
-use crate::perform::perform;
-use crate::statement::Statement;
+use crate::perform::execute;
 use crate::status::Status;
 use crate::stop::Stop;
+use pdw_ast::Statement;
 use pdw_catalog::Appliance;
 use pdw_outside::{Files, Sink, write_whole};
 use std::alloc::Global;
@@ -33,13 +33,13 @@ fn step<F: Files, S: Sink>(
     files: &mut F,
     out: &mut S,
 ) -> Status
-    requires { CanPerform appliance.old statement.now }
+    requires { HaveOwnNames appliance.old.tables }
     ensures steps { Steps (F.bytes files.old) k (plain_of appliance.old) statement.now (plain_of appliance.new) (F.faults files.old) (F.faults files.new) (S.written out.old) (S.written out.new) result }
     ensures reading { SameReading result (F.faults files.old) (F.faults files.new) }
     ensures writing { CountsWriting result (S.faults out.old) (S.faults out.new) }
     ensures bytes { F.bytes files.new ≡ F.bytes files.old }
 {
-    match perform(alloc, appliance, statement, files) {
+    match execute(alloc, appliance, statement, files) {
         Ok(text) => match write_whole(out, text.as_slice()) {
             Ok(()) => Status::Done,
             Err(_) => Status::WriteFault,
@@ -61,7 +61,7 @@ pub fn run_statements<F: Files, S: Sink>(
     files: &mut F,
     out: &mut S,
 ) -> Status
-    requires { CanRun appliance.old.tables statements.now }
+    requires { HaveOwnNames appliance.old.tables }
     ensures lawful { EndsBy result (F.faults files.old) (F.faults files.new) (Writes (F.bytes files.old) 1 (plain_of appliance.old) statements.now) (S.written out.old) (S.written out.new) }
     ensures reading { SameReading result (F.faults files.old) (F.faults files.new) }
     ensures writing { CountsWriting result (S.faults out.old) (S.faults out.new) }

@@ -2,7 +2,7 @@ use crate::refusal::Refusal;
 use pdw_base::NoMemory;
 
 /// Why a statement gave no text.
-#[derive(Clone, Copy, Debug, PartialEq, Eq)]
+#[derive(Debug, Drop)]
 pub enum Stop {
     /// It is refused.
     Refused(Refusal),

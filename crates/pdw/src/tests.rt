@@ -1,6 +1,7 @@
 mod faults;
 mod limits;
 mod outside;
+mod statements;
 mod texts;
 mod words;
 

@@ -1,4 +1,4 @@
-use super::{PRINTED, SCRIPT, TABLE, outcome};
+use super::{PRINTED, SCRIPT, TABLE, outcome, repeated};
 use crate::status::Status;
 use std::test::Fail;
 
@@ -38,21 +38,46 @@ fn the_rows_of_nodes_follow_one_another(rt: HostRuntime) -> Result<(), Fail> {
 }
 
 #[test]
-fn the_place_of_a_text_fault_is_printed(rt: HostRuntime) -> Result<(), Fail> {
+fn the_first_fault_of_a_text_is_printed(rt: HostRuntime) -> Result<(), Fail> {
     for (script, printed) in [
-        (b"".as_slice(), b"REFUSED E6 SYNTAX AT 0\n".as_slice()),
         (
-            b"CREATE TABLE t (a INT, b TEXT) WITH (DISTRIBUTION = HASH(a));\nSELECT * FROM t;\n",
-            b"REFUSED E6 SYNTAX AT 62\n",
+            b"SELECT a FROM".as_slice(),
+            b"REFUSED E6 SYNTAX AT 13\n".as_slice(),
         ),
         (
-            b"CREATE TABLE t (a INT, b TEXT) WITH (DISTRIBUTION = HASH(a));\nLOAD t FROM 't.csv';\n",
-            b"REFUSED E6 SYNTAX AT 83\n",
+            b"SELECT (((((((((((((((((((((((((((((((((",
+            b"REFUSED E7 TOODEEP AT 39\n",
+        ),
+        (
+            b"SELECT 9223372036854775808 FROM t;",
+            b"REFUSED E4 BIGNUMBER AT 7\n",
+        ),
+        (b"DROP \xFF", b"REFUSED E1 NOTUTF8 AT 5\n"),
+        (b"DROP #", b"REFUSED E2 BADCHAR AT 5\n"),
+        (b"LOAD t FROM 'f", b"REFUSED E3 OPENTEXT AT 12\n"),
+        // A fault of a piece comes before one of the grammar that stands earlier.
+        (b"DROP; 'f", b"REFUSED E3 OPENTEXT AT 6\n"),
+        // Nothing is executed where a later statement is no text of the grammar.
+        (
+            b"CREATE TABLE t (a INT) WITH (DISTRIBUTION = HASH(a)); DROP t;",
+            b"REFUSED E6 SYNTAX AT 59\n",
         ),
     ] {
         let (status, text) = outcome(rt.alloc(), &["run", "3", "s"], script, TABLE)?;
         assert_eq!(rt; status, Status::Refused);
         assert_eq!(rt; text.as_slice(), printed);
     }
+    Ok(())
+}
+
+#[test]
+fn a_text_too_long_is_refused(rt: HostRuntime) -> Result<(), Fail> {
+    let alloc = rt.alloc();
+    let mut script = Vec::from_slice(alloc, b"LOAD t FROM '")?;
+    script.extend_from_slice(repeated(alloc, b"f", 1_001)?.as_slice())?;
+    script.extend_from_slice(b"';")?;
+    let (status, text) = outcome(alloc, &["run", "1", "s"], script.as_slice(), TABLE)?;
+    assert_eq!(rt; status, Status::Refused);
+    assert_eq!(rt; text.as_slice(), b"REFUSED E5 LONGTEXT AT 12\n".as_slice());
     Ok(())
 }

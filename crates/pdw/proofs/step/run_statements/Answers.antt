@@ -1,11 +1,11 @@
-use Rattle.std.proofs.Common.{ℕ, ◌+◌, ◌∙◌, List, drop, refl, sym, subst}
+use Rattle.std.proofs.Common.{ℕ, ◌+◌, ◌∙◌, List, refl, sym, subst}
 use Rattle.std.proofs.lemmas.List.{drop_all}
 use Rattle.pdw_outside.proofs.SinkLemmas.{adds_both, adds_none}
 use Rattle.pdw_outside.specs.Sink.{Adds}
 use Rattle.pdw.specs.Output.{CountsWriting, EndsIn, Finished, Gives, Held, SameReading, Writes}
 use Rattle.pdw.specs.Plain.{plain_of}
 use Rattle.pdw.specs.Run.{EndsBy}
-use Rattle.pdw.proofs.RunLemmas.{CanRun-here, CanRun-rest, Steps-ended, Writes-end, Writes-more, followed_by-nothing}
+use Rattle.pdw.proofs.RunLemmas.{HaveOwnNames-gives, Steps-ended, Writes-end, Writes-more, followed_by-nothing}
 use Rattle.pdw.specs.Trace.{Trace, followed_by, nothing}
 use Rattle.pdw.proofs.step.run_statements.Goals as goal
 
@@ -43,8 +43,7 @@ loop-place-preserved g c =
     let statements = c.args.statements.now in
     let step = subst (λ (told : Held). (trace : Trace) × Gives told state statement trace next × Adds (g.S.Sink.written c.loop-place.out) (g.S.Sink.written c.step.new.out) trace.text) inv.bytes c.in-Done.ensures.steps in
     record {
-      can = CanRun-rest held state next statement (drop (c.loop-place.place + 1) statements) step.0
-          (CanRun-here statements c.loop-place.place statement c.loop-place-test.true c.index-statements-place.is c.loop-place.appliance.tables inv.can) step.1;
+      names = HaveOwnNames-gives held state next statement step.0 inv.names step.1;
       done = followed_by inv.done step.0;
       added = adds_both _ _ _ inv.done.text step.0.text inv.added step.2;
       so_far = Writes-more statements c.loop-place.place statement c.loop-place-test.true c.index-statements-place.is held (plain_of c.args.appliance.now) state next statements inv.done step.0 inv.so_far step.1;
@@ -63,7 +62,7 @@ returns-clause-lawful g c =
 
 pub loop-place-init : goal.loop-place-init
 loop-place-init g c = record {
-  can = c.requires;
+  names = c.requires;
   done = nothing;
   added = adds_none (g.S.Sink.written c.args.out.now);
   so_far = λ end rest all. all;

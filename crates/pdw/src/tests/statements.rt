@@ -1,0 +1,122 @@
+use super::outcome;
+use crate::status::Status;
+use std::alloc::Global;
+use std::test::Fail;
+
+// A table of one hash column, and one that is replicated.
+const HASHED: &str = "CREATE TABLE t (a INT, b TEXT) WITH (DISTRIBUTION = HASH(a));";
+
+const COPIED: &str = "CREATE TABLE r (a INT) WITH (DISTRIBUTION = REPLICATE);";
+
+// How a script over a file of the record 1 ends, and what it prints.
+fn run_of(alloc: Global, first: &str, rest: &str) -> Result<(Status, Vec<u8>), Fail> {
+    let script = format!(in alloc; "{first}{rest}")?;
+    outcome(alloc, &["run", "3", "s"], script.as_bytes(), b"1\n")
+}
+
+#[test]
+fn statements_are_executed_in_order(rt: HostRuntime) -> Result<(), Fail> {
+    for (first, rest, printed) in [
+        ("", "", b"".as_slice()),
+        ("-- nothing", "\n -- at all", b""),
+        (
+            COPIED,
+            "LOAD r FROM 't.csv'; SELECT * FROM r;",
+            b"OK\nLOADED 1\na\n1\nROWS 1\n",
+        ),
+        (
+            COPIED,
+            "load R from 't.csv'; LOAD r FROM 't.csv';\nselect all * -- twice\nfrom R;",
+            b"OK\nLOADED 1\nLOADED 1\na\n1\n1\nROWS 2\n",
+        ),
+        (HASHED, "DROP TABLE t;", b"OK\nOK\n"),
+        (
+            COPIED,
+            "LOAD r FROM 't.csv'; DROP TABLE r; CREATE TABLE r (b TEXT NOT NULL) WITH (DISTRIBUTION = HASH(b)); SELECT * FROM r;",
+            b"OK\nLOADED 1\nOK\nOK\nb\nROWS 0\n",
+        ),
+    ] {
+        let (status, text) = run_of(rt.alloc(), first, rest)?;
+        assert_eq!(rt; status, Status::Done, "{rest}");
+        assert_eq!(rt; text.as_slice(), printed, "{rest}");
+    }
+    Ok(())
+}
+
+#[test]
+fn the_first_fault_of_a_statement_is_printed(rt: HostRuntime) -> Result<(), Fail> {
+    for (rest, printed) in [
+        (
+            "CREATE TABLE t (c INT) WITH (DISTRIBUTION = REPLICATE);",
+            b"OK\nREFUSED E8 STATEMENT 2 TABLEEXISTS t\n".as_slice(),
+        ),
+        (
+            "CREATE TABLE T (a INT, a INT) WITH (DISTRIBUTION = HASH(c));",
+            b"OK\nREFUSED E8 STATEMENT 2 TABLEEXISTS t\n",
+        ),
+        (
+            "CREATE TABLE u (a INT, b INT, A TEXT) WITH (DISTRIBUTION = HASH(c));",
+            b"OK\nREFUSED E10 STATEMENT 2 DUPLICATENAME a\n",
+        ),
+        (
+            "CREATE TABLE u (a INT) WITH (DISTRIBUTION = HASH(C));",
+            b"OK\nREFUSED E11 STATEMENT 2 UNKNOWNCOLUMN c\n",
+        ),
+        (
+            "LOAD u FROM 'none';",
+            b"OK\nREFUSED E9 STATEMENT 2 UNKNOWNTABLE u\n",
+        ),
+        (
+            "DROP TABLE u;",
+            b"OK\nREFUSED E9 STATEMENT 2 UNKNOWNTABLE u\n",
+        ),
+        (
+            "DROP TABLE t; SELECT * FROM t;",
+            b"OK\nOK\nREFUSED E9 STATEMENT 3 UNKNOWNTABLE t\n",
+        ),
+        (
+            "LOAD t FROM 't.csv'; DROP TABLE t;",
+            b"OK\nREFUSED E17 STATEMENT 2 FIELDCOUNT 1\n",
+        ),
+    ] {
+        let (status, text) = run_of(rt.alloc(), HASHED, rest)?;
+        assert_eq!(rt; status, Status::Refused, "{rest}");
+        assert_eq!(rt; text.as_slice(), printed, "{rest}");
+    }
+    Ok(())
+}
+
+#[test]
+fn other_forms_are_not_built(rt: HostRuntime) -> Result<(), Fail> {
+    for form in [
+        "SELECT a FROM t",
+        "SELECT DISTINCT * FROM t",
+        "SELECT * FROM t AS t",
+        "SELECT * FROM (t)",
+        "SELECT * FROM t, r",
+        "SELECT * FROM t CROSS JOIN r",
+        "SELECT * FROM t WHERE a = 1",
+        "SELECT * FROM t GROUP BY a",
+        "SELECT * FROM t HAVING a = 1",
+        "SELECT * FROM t ORDER BY a",
+        "SELECT a FROM nosuch",
+        "UPDATE STATISTICS nosuch",
+        "UPDATE STATISTICS t WITH ROWS 5",
+        "SET BUDGET 0",
+        "SET COST READER 0",
+        "EXPLAIN SELECT * FROM t",
+        "EXPLAIN JSON SELECT * FROM t",
+        "PROFILE SELECT * FROM t",
+        "CHECK PLAN 'p' FOR SELECT * FROM t",
+    ] {
+        let rest = format!(in rt.alloc(); "{form}; DROP TABLE t;")?;
+        let (status, text) = run_of(rt.alloc(), HASHED, rest.as_str())?;
+        assert_eq!(rt; status, Status::Refused, "{form}");
+        assert_eq!(rt;
+            text.as_slice(),
+            b"OK\nREFUSED E19 STATEMENT 2 NOTBUILT\n".as_slice(),
+            "{form}"
+        );
+    }
+    Ok(())
+}
