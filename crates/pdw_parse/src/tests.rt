@@ -134,8 +134,8 @@ fn statements_are_spelled_canonically(rt: HostRuntime) -> Result<(), Fail> {
 #[test]
 fn a_script_fills_its_limit(rt: HostRuntime) -> Result<(), Fail> {
     let alloc = rt.alloc();
-    let sum = repeated(alloc, "SELECT a", "+a", 100_000, " FROM t;")?;
-    let wanted = repeated(alloc, "<all [a", " + a", 100_000, "] from [t]>;")?;
+    let sum = repeated(alloc, "SELECT a", "+a", 524_000, " FROM t;")?;
+    let wanted = repeated(alloc, "<all [a", " + a", 524_000, "] from [t]>;")?;
     assert!(rt; shown(alloc, sum.as_str())?.as_str() == wanted.as_str());
     let many = repeated(alloc, "", "SELECT (a) FROM t;", 20_000, "SELECT (a FROM t;")?;
     assert_eq!(rt; shown(alloc, many.as_str())?.as_str(), "syntax 360010");
