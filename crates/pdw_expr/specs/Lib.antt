@@ -7,3 +7,7 @@ pub mod Env
 pub mod Scalar
 pub mod Cond
 pub mod Columns
+pub mod Aggregate
+pub mod Join
+pub mod Parts
+pub mod Rows

@@ -67,8 +67,9 @@ fn of_numbers<'a>(op: Arith, a: i64, b: i64) -> ValueRef<'a>
     }
 }
 
-/// One operator between two values: SQL-92, 6.12.
-pub(crate) fn compute<'a>(op: Arith, a: ValueRef<'_>, b: ValueRef<'_>) -> ValueRef<'a>
+/// One operator between two values: SQL-92, 6.12. An operand that is NULL or no number, a zero divisor and a result
+/// outside 64 bits give NULL. It takes no memory.
+pub fn compute<'a>(op: Arith, a: ValueRef<'_>, b: ValueRef<'_>) -> ValueRef<'a>
     ensures { owned result ≡ computed op (owned a.entry) (owned b.entry) }
 {
     match (a, b) {
@@ -77,8 +78,8 @@ pub(crate) fn compute<'a>(op: Arith, a: ValueRef<'_>, b: ValueRef<'_>) -> ValueR
     }
 }
 
-/// The value with its sign changed.
-pub(crate) fn negate<'a>(a: ValueRef<'_>) -> ValueRef<'a>
+/// The value with its sign changed, NULL where that lies outside 64 bits or the value is no number.
+pub fn negate<'a>(a: ValueRef<'_>) -> ValueRef<'a>
     ensures { owned result ≡ negated (owned a.entry) }
 {
     let ValueRef::Int(number) = a else {

@@ -22,8 +22,8 @@ fn holds(op: Cmp, ordering: Ordering) -> bool
     }
 }
 
-/// A comparison of two values: SQL-92, 8.2.
-pub(crate) fn compared_by(op: Cmp, a: ValueRef<'_>, b: ValueRef<'_>) -> Truth
+/// A comparison of two values: SQL-92, 8.2. It is Unknown where either is NULL or they are of two kinds.
+pub fn compared_by(op: Cmp, a: ValueRef<'_>, b: ValueRef<'_>) -> Truth
     ensures { result ≡ comparison op (owned a.entry) (owned b.entry) }
 {
     match compare(a, b) {
@@ -33,7 +33,7 @@ pub(crate) fn compared_by(op: Cmp, a: ValueRef<'_>, b: ValueRef<'_>) -> Truth
 }
 
 /// `a IS NULL`: SQL-92, 8.6.
-pub(crate) fn is_null(a: ValueRef<'_>) -> Truth
+pub fn is_null(a: ValueRef<'_>) -> Truth
     ensures { result ≡ decided (spec.is_null (owned a.entry)) }
 {
     truth_from(matches!(a, ValueRef::Null))

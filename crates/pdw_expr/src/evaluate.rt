@@ -6,7 +6,7 @@ ghost use Rattle.pdw_expr.specs.Scalar.{value_of};
 
 use crate::arithmetic::{compute, negate};
 use crate::comparison::{compared_by, is_null};
-use crate::like::like;
+use crate::like::is_like;
 use crate::logic::{and, is, not, or};
 use crate::{Cond, Scalar};
 use pdw_base::{ColId, Row, Schema, Truth, ValueRef};
@@ -50,7 +50,7 @@ pub fn eval_cond(c: &Cond, s: &Schema, r: &Row) -> Truth
 {
     match c {
         Cond::Compare(op, a, b) => compared_by(*op, eval_scalar(a, s, r), eval_scalar(b, s, r)),
-        Cond::Like(text, pattern) => like(eval_scalar(text, s, r), eval_scalar(pattern, s, r)),
+        Cond::Like(text, pattern) => is_like(eval_scalar(text, s, r), eval_scalar(pattern, s, r)),
         Cond::IsNull(a) => is_null(eval_scalar(a, s, r)),
         Cond::Test(part, truth) => is(eval_cond(part.get(), s, r), *truth),
         Cond::Not(part) => not(eval_cond(part.get(), s, r)),

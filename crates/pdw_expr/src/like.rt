@@ -93,7 +93,7 @@ fn is_match(pattern: &str, text: &str) -> bool
 }
 
 /// `text LIKE pattern`: SQL-92, 8.5.
-pub(crate) fn like(text: ValueRef<'_>, pattern: ValueRef<'_>) -> Truth
+pub fn is_like(text: ValueRef<'_>, pattern: ValueRef<'_>) -> Truth
     ensures { result ≡ spec.like (owned text.entry) (owned pattern.entry) }
 {
     match (text, pattern) {

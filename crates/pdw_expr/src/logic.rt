@@ -3,14 +3,15 @@ ghost use Rattle.pdw_expr.specs.Logic.{conjunction, decided, disjunction, is_tru
 
 use pdw_base::Truth;
 
-/// True for `true`, and never Unknown.
-pub(crate) fn truth_from(fact: bool) -> Truth
+/// The truth of a fact that is decided: True for `true`, and never Unknown.
+pub fn truth_from(fact: bool) -> Truth
     ensures { result ≡ decided fact }
 {
     if fact { Truth::True } else { Truth::False }
 }
 
-pub(crate) fn not(a: Truth) -> Truth
+/// NOT, which leaves Unknown: SQL-92, 8.12.
+pub fn not(a: Truth) -> Truth
     ensures { result ≡ negation a }
 {
     match a {
@@ -20,7 +21,8 @@ pub(crate) fn not(a: Truth) -> Truth
     }
 }
 
-pub(crate) fn and(a: Truth, b: Truth) -> Truth
+/// AND: False where either is, else Unknown where either is: SQL-92, 8.12.
+pub fn and(a: Truth, b: Truth) -> Truth
     ensures { result ≡ conjunction a b }
 {
     match (a, b) {
@@ -30,7 +32,8 @@ pub(crate) fn and(a: Truth, b: Truth) -> Truth
     }
 }
 
-pub(crate) fn or(a: Truth, b: Truth) -> Truth
+/// OR: True where either is, else Unknown where either is: SQL-92, 8.12.
+pub fn or(a: Truth, b: Truth) -> Truth
     ensures { result ≡ disjunction a b }
 {
     match (a, b) {
@@ -40,8 +43,8 @@ pub(crate) fn or(a: Truth, b: Truth) -> Truth
     }
 }
 
-/// `a IS b`.
-pub(crate) fn is(a: Truth, b: Truth) -> Truth
+/// `a IS b`, which is never Unknown: SQL-92, 8.12.
+pub fn is(a: Truth, b: Truth) -> Truth
     ensures { result ≡ decided (is_truth a b) }
 {
     match (a, b) {
