@@ -1,0 +1,9 @@
+pub mod Turns
+pub mod Matches
+pub mod Chains
+pub mod NameLemmas
+pub mod OutputPlaces
+pub mod Orders
+pub mod Spread
+pub mod Nodes
+pub mod Places

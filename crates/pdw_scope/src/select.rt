@@ -1,0 +1,41 @@
+//! A query with the order of its rows.
+
+ghost use Rattle.pdw_scope.specs.Queries as spec;
+ghost use Rattle.pdw_scope.specs.Statements.{Answers, answer_of};
+ghost use Rattle.pdw_scope.specs.Walk.{Walks, beginning};
+
+use crate::entry::Role;
+use crate::fault::JudgeFault;
+use crate::judged::JudgedSelect;
+use crate::order::ordered;
+use crate::queries::query;
+use crate::walk::Walk;
+use pdw_ast::Select;
+use pdw_catalog::Catalog;
+use std::alloc::Global;
+
+// A SELECT: its query, and then its order keys.
+#[tactic(auto, unfolding(crate::specs::Queries::select))]
+fn walk_select(
+    alloc: Global,
+    catalog: &Catalog,
+    walk: &mut Walk,
+    select: &Select,
+) -> Result<JudgedSelect, JudgeFault>
+    ensures { Walks (spec.select catalog.now select.now walk.old) result walk.new }
+{
+    let walked = query(alloc, catalog, walk, &select.query, Role::Statement, &[])?;
+    ordered(alloc, walked, select.order.as_slice())
+}
+
+/// A SELECT, with numbers in place of names.
+pub fn judge_select(
+    alloc: Global,
+    catalog: &Catalog,
+    select: &Select,
+) -> Result<JudgedSelect, JudgeFault>
+    ensures { Answers (answer_of (spec.select catalog.now select.now beginning)) result }
+{
+    let mut walk = Walk::new(alloc);
+    walk_select(alloc, catalog, &mut walk, select)
+}
