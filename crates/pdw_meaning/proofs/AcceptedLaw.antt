@@ -1,0 +1,34 @@
+-- The law of names and numbers, of the statements that the judgement accepts.
+use Rattle.std.proofs.Common.{◌≡◌, Result, Ok, Err, ap, subst}
+use Rattle.std.specs.Bool.{⊤}
+use Rattle.pdw_ast.specs.declared.query.Select.{Select}
+use Rattle.pdw_ast.specs.declared.statement.Statement.TheVariants as statement_is
+use Rattle.pdw_catalog.specs.Database.{Database}
+use Rattle.pdw_meaning.proofs.NamesLaw.{names_law}
+use Rattle.pdw_meaning.specs.Answer.{answer}
+use Rattle.pdw_meaning.specs.Numbered.{numbered_answer}
+use Rattle.pdw_scope.specs.Queries.{select}
+use Rattle.pdw_scope.specs.Statements.{answer_of, judgement, statement}
+use Rattle.pdw_scope.specs.Walk.{Outcome, Walk, and_then, beginning, done, pure, refused}
+use Rattle.pdw_scope.specs.declared.fault.JudgeFault.{JudgeFault}
+use Rattle.pdw_scope.specs.declared.judged.Judged.{Judged}
+use Rattle.pdw_scope.specs.declared.judged.Judged.TheVariants as judged
+use Rattle.pdw_scope.specs.declared.judged.JudgedSelect.{JudgedSelect}
+
+-- what SELECT gives, and else a form that does not matter
+abbrev inner : JudgedSelect → Result Judged JudgeFault → JudgedSelect
+inner otherwise (Ok (judged.Select j)) = j
+inner otherwise other = otherwise
+
+abbrev Refused : Result Judged JudgeFault → Type 0
+Refused (Ok j) = ⊥
+Refused (Err fault) = ⊤
+
+-- the walk of a SELECT that is accepted
+walked : (j : JudgedSelect) (o : Outcome JudgedSelect) → answer_of (and_then o (λ a. pure (judged.Select a))) ≡ Ok (judged.Select j) → (w : Walk) × (o ≡ done j w)
+walked j (done a w) e = (w, ap (λ x. done x w) (ap (inner a) e))
+walked j (refused fault) e = absurd (subst Refused e tt)
+
+pub accepted : (database : Database) (s : Select) (j : JudgedSelect) → judgement database.tables (statement_is.Select s) ≡ Ok (judged.Select j) → answer database s ≡ numbered_answer database j
+unfolding statement
+accepted database s j e = let found = walked j (select database.tables s beginning) e in names_law database s j found.0 found.1
