@@ -1,0 +1,5 @@
+pub mod Meaning
+pub mod Schema
+pub mod Types
+pub mod Shape
+pub mod WellFormed

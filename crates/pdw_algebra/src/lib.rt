@@ -1,0 +1,15 @@
+//! Trees of operators over numbered columns.
+#![tactic(auto)]
+
+mod local;
+mod schema;
+mod shape;
+mod tree;
+mod types;
+
+pub use local::LocalTree;
+pub use schema::schema_of;
+pub use tree::{MOST_LEAVES, Tree};
+
+#[cfg(test)]
+mod tests;
