@@ -1,18 +1,22 @@
 -- The law of names and numbers, of the statements that the judgement accepts.
-use Rattle.std.proofs.Common.{◌≡◌, Result, Ok, Err, ap, subst}
+use Rattle.std.proofs.Common.{◌≡◌, Result, Ok, Err, ap, map, subst}
 use Rattle.std.specs.Bool.{⊤}
 use Rattle.pdw_ast.specs.declared.query.Select.{Select}
 use Rattle.pdw_ast.specs.declared.statement.Statement.TheVariants as statement_is
 use Rattle.pdw_catalog.specs.Database.{Database}
 use Rattle.pdw_meaning.proofs.NamesLaw.{names_law}
-use Rattle.pdw_meaning.specs.Answer.{answer}
+use Rattle.pdw_meaning.proofs.SelectNames.{select_names, select_order}
+use Rattle.pdw_meaning.specs.Answer.{answer, order_of}
 use Rattle.pdw_meaning.specs.Numbered.{numbered_answer}
+use Rattle.pdw_meaning.specs.Queries.{query}
 use Rattle.pdw_scope.specs.Queries.{select}
 use Rattle.pdw_scope.specs.Statements.{answer_of, judgement, statement}
 use Rattle.pdw_scope.specs.Walk.{Outcome, Walk, and_then, beginning, done, pure, refused}
 use Rattle.pdw_scope.specs.declared.fault.JudgeFault.{JudgeFault}
 use Rattle.pdw_scope.specs.declared.judged.Judged.{Judged}
 use Rattle.pdw_scope.specs.declared.judged.Judged.TheVariants as judged
+use Rattle.pdw_scope.specs.declared.judged.JItem.{JItem}
+use Rattle.pdw_scope.specs.declared.judged.JudgedQuery.{out-JudgedQuery}
 use Rattle.pdw_scope.specs.declared.judged.JudgedSelect.{JudgedSelect}
 
 -- what SELECT gives, and else a form that does not matter
@@ -29,6 +33,21 @@ walked : (j : JudgedSelect) (o : Outcome JudgedSelect) → answer_of (and_then o
 walked j (done a w) e = (w, ap (λ x. done x w) (ap (inner a) e))
 walked j (refused fault) e = absurd (subst Refused e tt)
 
+-- the walk of a SELECT that the judgement accepts
+pub accepted_walk : (database : Database) (s : Select) (j : JudgedSelect) → judgement database.tables (statement_is.Select s) ≡ Ok (judged.Select j) → (w : Walk) × (select database.tables s beginning ≡ done j w)
+unfolding statement
+accepted_walk database s j e = walked j (select database.tables s beginning) e
+
 pub accepted : (database : Database) (s : Select) (j : JudgedSelect) → judgement database.tables (statement_is.Select s) ≡ Ok (judged.Select j) → answer database s ≡ numbered_answer database j
 unfolding statement
-accepted database s j e = let found = walked j (select database.tables s beginning) e in names_law database s j found.0 found.1
+accepted database s j e = let found = accepted_walk database s j e in names_law database s j found.0 found.1
+
+-- the output names are those of the meaning
+pub accepted_names : (database : Database) (s : Select) (j : JudgedSelect) → judgement database.tables (statement_is.Select s) ≡ Ok (judged.Select j) → map (λ (i : JItem). i.name) (out-JudgedQuery j.query).items ≡ (query database s.query).names
+unfolding statement
+accepted_names database s j e = let found = accepted_walk database s j e in select_names database s j found.0 found.1
+
+-- the order keys are those that ORDER BY means
+pub accepted_order : (database : Database) (s : Select) (j : JudgedSelect) → judgement database.tables (statement_is.Select s) ≡ Ok (judged.Select j) → j.order ≡ order_of (query database s.query).names s.order
+unfolding statement
+accepted_order database s j e = let found = accepted_walk database s j e in select_order database s j found.0 found.1

@@ -31,3 +31,6 @@ pub mod TestedLaws
 pub mod WalkLaws
 pub mod WhereLaws
 pub mod AcceptedLaw
+pub mod OutputNames
+pub mod OrderKeys
+pub mod SelectNames

@@ -16,8 +16,10 @@ mod scope;
 mod truths;
 mod values;
 
+pub use aggregates::aggregated;
 pub use answer::plain_answer;
 pub use laws::names_are_numbers;
+pub use parts::{each_once, is_same_row};
 
 #[cfg(test)]
 mod tests;
