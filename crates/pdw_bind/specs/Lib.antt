@@ -1,1 +1,3 @@
 pub mod Bind
+pub mod Sound
+pub mod Written

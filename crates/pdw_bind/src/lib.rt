@@ -3,8 +3,10 @@
 
 mod copies;
 mod groups;
+mod laws;
 mod leaves;
 mod query;
 mod subqueries;
 
+pub use laws::{the_tree_means_its_query, what_is_written_is_complete};
 pub use query::bind;
