@@ -1,0 +1,198 @@
+-- What the judgement of a statement that is executed says of the tables.
+use Rattle.std.proofs.Common.{◌≡◌, ℕ, zero, suc, ◌<◌, ◌≤◌, ◌==◌, Bool, true, false, leb, inl, inr, List, [], ◌∷◌, ◌++◌, length, get_or, position, AllPairs, Option, Some, None, is_some, IsSome, Result, Ok, Err, refl, sym, ◌∙◌, ap, subst, arith, append_assoc, append-nil}
+use Rattle.std.specs.Bool.{⊤}
+use Rattle.std.specs.List.{list_any}
+use Rattle.std.specs.Str.{bytes_eq}
+use Rattle.std.proofs.lemmas.Bool.{false≢true, or_parts}
+use Rattle.std.proofs.lemmas.Bool.Decides.{leb_tells, Decides-eqb}
+use Rattle.std.proofs.lemmas.List.{length-append}
+use Rattle.std.proofs.lemmas.List.Quantifiers.{all_pairs_push, position-Some}
+use Rattle.std.proofs.lemmas.Option.{none-some}
+use Rattle.pdw_ast.specs.declared.query.Select.{Select}
+use Rattle.pdw_ast.specs.declared.statement.Statement.{Statement}
+use Rattle.pdw_ast.specs.declared.statement.Statement.TheVariants as s
+use Rattle.pdw_bind.specs.Written.{some_columns, statement_written}
+use Rattle.pdw_catalog.specs.Appliance.{IsTable}
+use Rattle.pdw_catalog.specs.Catalog.{Tables, table_named}
+use Rattle.pdw_catalog.specs.Table.{IsPlaced}
+use Rattle.pdw_catalog.specs.declared.table.Column.{Column}
+use Rattle.pdw_catalog.specs.declared.table.Placing.{Placing}
+use Rattle.pdw_catalog.specs.declared.table.Placing.TheVariants.{Hash}
+use Rattle.pdw_catalog.specs.declared.table.Table.{Table}
+use Rattle.pdw_catalog.specs.declared.table.TheConstants.{MOST_COLUMNS, MOST_TABLES}
+use Rattle.pdw_engine.specs.Prepared.{IsPrepared, is_built}
+use Rattle.pdw_meaning.proofs.Outcomes.{done_value, in_turn, refused_not_done}
+use Rattle.pdw_scope.specs.Queries.{select}
+use Rattle.pdw_scope.specs.Statements.{answer_of, create, is_named, judgement, known, known_or_fault, new_column, place_of_column, place_or_fault, placing, statement, with_known}
+use Rattle.pdw_scope.specs.Walk.{Outcome, Step, Walk, and_then, beginning, done, over, pure, refuse_if, refused}
+use Rattle.pdw_scope.specs.declared.fault.JudgeFault.{JudgeFault}
+use Rattle.pdw_scope.specs.declared.judged.Judged.{Judged}
+use Rattle.pdw_scope.specs.declared.judged.Judged.TheVariants as judged
+use Rattle.pdw_scope.specs.declared.judged.JudgedSelect.{JudgedSelect}
+
+-- ---- steps of a walk
+
+value_or : {A : Type 0} → A → Result A JudgeFault → A
+value_or otherwise (Ok a) = a
+value_or otherwise (Err fault) = otherwise
+
+Refused : {A : Type 0} → Result A JudgeFault → Type 0
+Refused (Ok a) = ⊥
+Refused (Err fault) = ⊤
+
+-- an answer is what the walk gives at its end
+answered : {A : Type 0} (o : Outcome A) (a : A) → answer_of o ≡ Ok a → (w : Walk) × (o ≡ done a w)
+unfolding value_or Refused
+answered (done b w) a e = (w, ap (λ x. done x w) (ap (value_or a) e))
+answered (refused fault) a e = absurd (subst Refused e tt)
+
+-- a walk that comes to its end passed its tests
+passed_test : {B : Type 0} (test : Bool) (fault : JudgeFault) (next : Unit {0} → Step B) (b : B) (w w' : Walk) → and_then (refuse_if test fault w) next ≡ done b w' → (test ≡ false) × (next tt w ≡ done b w')
+passed_test true fault next b w w' e = refused_not_done e
+passed_test false fault next b w w' e = (refl, e)
+
+-- ---- the columns of a new table
+
+abbrev Apart : Column → Column → Type 0
+Apart c d = bytes_eq c.name d.name ≡ false
+
+none_at : (p : Column → Bool) (xs : List Column) → list_any p xs ≡ false → (k : ℕ) (d : Column) → k < length xs → p (get_or xs k d) ≡ false
+none_at p [] h k d lt = absurd (omega arith)
+none_at p (x ∷ xs) h zero d lt = (or_parts (p x) (list_any p xs) h).0
+none_at p (x ∷ xs) h (suc k) d lt = none_at p xs (or_parts (p x) (list_any p xs) h).1 k d (omega arith)
+
+unequal : (a b : ℕ) → (a == b) ≡ false → a ≡ b → ⊥
+unequal a b e same = false≢true (sym e ∙ (Decides-eqb a b).1 same)
+
+-- as many as a table may have, and of different names
+abbrev Fit : List Column → Type 0
+Fit columns = (length columns ≤ MOST_COLUMNS) × AllPairs Apart columns
+
+one_more : (before : List Column) (column : Column) (w : Walk) (more : List Column) (w' : Walk) → Fit before → new_column before column w ≡ done more w' → (before ++ column ∷ [] ≡ more) × Fit more
+one_more before column w more w' fit e =
+    let counted = passed_test (length before == MOST_COLUMNS) _ _ more w w' e in
+    let named = passed_test (list_any (is_named column.name) before) _ _ more w w' counted.1 in
+    let longer = length-append before (column ∷ []) in
+    let other : length before ≡ MOST_COLUMNS → ⊥ = unequal (length before) MOST_COLUMNS counted.0 in
+    let room : length (before ++ column ∷ []) ≤ MOST_COLUMNS = omega (arith, other) in
+    let apart = all_pairs_push Apart before column fit.1 (none_at (is_named column.name) before named.0) in
+    let same = done_value named.1 in
+    (same, subst Fit same (room, apart))
+
+columns_fit : (before left : List Column) (w : Walk) (found : List Column) (w' : Walk) → Fit before → over new_column before left w ≡ done found w' → Fit (before ++ left)
+columns_fit before [] w found w' fit e = subst Fit (sym (append-nil before)) fit
+columns_fit before (column ∷ left) w found w' fit e =
+    let turn = in_turn (new_column before column w) (λ more. over new_column more left) found w' e in
+    let one = one_more before column w turn.value turn.middle fit turn.begun in
+    subst Fit (ap (λ more. more ++ left) (sym one.0) ∙ append_assoc before (column ∷ []) left) (columns_fit turn.value left turn.middle found w' one.1 turn.ended)
+
+none_yet : Fit []
+none_yet = (omega arith, λ i j d lt within. absurd (omega arith))
+
+place_within : (columns : List Column) (name : List ℕ) (place : ℕ) → position (is_named name) columns ≡ Some place → place < length columns
+place_within [] name place found = absurd (none-some place found)
+place_within (c ∷ cs) name place found = (position-Some (is_named name) (c ∷ cs) place c found).0
+
+place_found : (columns : List Column) (name : List ℕ) (found : Option ℕ) → position (is_named name) columns ≡ found → (w : Walk) (place : ℕ) (w' : Walk) → place_or_fault name found w ≡ done place w' → place < length columns
+place_found columns name None at w place w' e = refused_not_done e
+place_found columns name (Some first) at w place w' e = subst (λ p. p < length columns) (done_value e) (place_within columns name first at)
+
+-- the hash column is one of the columns
+placed : (columns : List Column) (hash : Option (List ℕ)) (w : Walk) (where_rows : Placing) (w' : Walk) → placing columns hash w ≡ done where_rows w' → IsPlaced where_rows (length columns)
+unfolding place_of_column
+placed columns None w where_rows w' e = subst (λ p. IsPlaced p (length columns)) (done_value e) tt
+placed columns (Some name) w where_rows w' e =
+    let turn = in_turn (place_of_column columns name w) (λ place. pure (Hash place)) where_rows w' e in
+    subst (λ p. IsPlaced p (length columns)) (done_value turn.ended) (place_found columns name (position (is_named name) columns) refl w turn.value turn.middle turn.begun)
+
+-- ---- what is judged can be done
+
+-- over these tables
+abbrev pub IsReady : Tables → Statement → Judged → Type 0
+IsReady tables statement (judged.Create table) = statement_written statement ≡ true → (table_named table.name tables ≡ None) × IsTable table × (length tables < MOST_TABLES)
+IsReady tables statement (judged.Drop name) = IsSome (table_named name tables)
+IsReady tables statement (judged.Load name file) = IsSome (table_named name tables)
+IsReady tables statement (judged.Select form) = (select : Select) × (statement ≡ s.Select select)
+IsReady tables statement _ = ⊥
+
+not_some : (found : Option Table) → is_some found ≡ false → found ≡ None
+not_some None e = refl
+not_some (Some table) e = absurd (false≢true (sym e))
+
+below : (a b : ℕ) → leb a b ≡ false → b < a
+below a b e = elim (leb_tells a b) [ inl h ↦ absurd (false≢true (sym e ∙ h.0)) | inr h ↦ omega arith ]
+
+some_of : (columns : List Column) → some_columns columns ≡ true → 1 ≤ length columns
+some_of [] e = absurd (false≢true e)
+some_of (column ∷ columns) e = omega arith
+
+create_ready : (tables : Tables) (name : List ℕ) (columns : List Column) (hash : Option (List ℕ)) (w : Walk) (work : Judged) (w' : Walk) → create tables name columns hash w ≡ done work w' → IsReady tables (s.CreateNamed name columns hash) work
+unfolding create
+create_ready tables name columns hash w work w' e =
+    let absent = passed_test (is_some (table_named name tables)) _ _ work w w' e in
+    let checked = in_turn (over new_column [] columns w) _ work w' absent.1 in
+    let found = in_turn (placing columns hash checked.middle) _ work w' checked.ended in
+    let room = passed_test (leb MOST_TABLES (length tables)) _ _ work found.middle w' found.ended in
+    let fit = columns_fit [] columns w checked.value checked.middle none_yet checked.begun in
+    subst (IsReady tables (s.CreateNamed name columns hash)) (done_value room.1) (λ written. (
+      not_some (table_named name tables) absent.0,
+      record { some = some_of columns written; most = fit.0; different = fit.1; placed = placed columns hash checked.middle found.value found.middle found.begun },
+      below MOST_TABLES (length tables) room.0,
+    ))
+
+found_there : (tables : Tables) (found : Option Table) (name : List ℕ) (w : Walk) (table : Table) (w' : Walk) → known_or_fault tables name found w ≡ done table w' → IsSome found
+found_there tables None name w table w' e = refused_not_done e
+found_there tables (Some first) name w table w' e = refl
+
+-- a table that is known is there
+known_ready : (tables : Tables) (written : Statement) (name : List ℕ) (work : Judged) (w : Walk) (end : Judged) (w' : Walk) → (IsSome (table_named name tables) → IsReady tables written work) → with_known tables name work w ≡ done end w' → IsReady tables written end
+unfolding with_known known
+known_ready tables written name work w end w' ready e =
+    let turn = in_turn (known_or_fault tables name (table_named name tables) w) (λ table. pure work) end w' e in
+    subst (IsReady tables written) (done_value turn.ended) (ready (found_there tables (table_named name tables) name w turn.value turn.middle turn.begun))
+
+select_ready : (tables : Tables) (query : Select) (w : Walk) (work : Judged) (w' : Walk) → and_then (select tables query w) (λ form. pure (judged.Select form)) ≡ done work w' → IsReady tables (s.Select query) work
+select_ready tables query w work w' e =
+    let turn = in_turn (select tables query w) (λ form. pure (judged.Select form)) work w' e in
+    subst (IsReady tables (s.Select query)) (done_value turn.ended) (query, refl)
+
+done_ready : (tables : Tables) (written : Statement) (work : Judged) (w' : Walk) → is_built written ≡ true → statement tables written beginning ≡ done work w' → IsReady tables written work
+unfolding statement
+done_ready tables (s.CreateNamed name columns hash) work w' built e = create_ready tables name columns hash beginning work w' e
+done_ready tables (s.Drop name) work w' built e = known_ready tables (s.Drop name) name (judged.Drop name) beginning work w' (λ there. there) e
+done_ready tables (s.Load name file) work w' built e = known_ready tables (s.Load name file) name (judged.Load name file) beginning work w' (λ there. there) e
+done_ready tables (s.Select query) work w' built e = select_ready tables query beginning work w' e
+done_ready tables _ work w' built e = absurd (false≢true built)
+
+-- what a judged statement does is as the tables allow it
+pub IsReady-judged : (tables : Tables) (written : Statement) (work : Judged) → is_built written ≡ true → judgement tables written ≡ Ok work → IsReady tables written work
+IsReady-judged tables written work built e =
+    let end = answered (statement tables written beginning) work e in
+    done_ready tables written work end.0 built end.1
+
+-- what is prepared can be done
+abbrev pub CanDo : Tables → Judged → Type 0
+CanDo tables (judged.Create table) = (table_named table.name tables ≡ None) × IsTable table × (length tables < MOST_TABLES)
+CanDo tables (judged.Drop name) = IsSome (table_named name tables)
+CanDo tables (judged.Load name file) = IsSome (table_named name tables)
+CanDo tables (judged.Select form) = ⊤
+CanDo tables _ = ⊥
+
+can_do : (tables : Tables) (statement : Statement) (work : Judged) → statement_written statement ≡ true → IsReady tables statement work → CanDo tables work
+can_do tables statement (judged.Create table) written ready = ready written
+can_do tables statement (judged.Drop name) written ready = ready
+can_do tables statement (judged.Load name file) written ready = ready
+can_do tables statement (judged.Select form) written ready = tt
+can_do tables statement _ written ready = absurd ready
+
+pub CanDo-prepared : (tables : Tables) (work : Judged) → IsPrepared tables work → CanDo tables work
+CanDo-prepared tables work (statement, written, prepares) = can_do tables statement work written (IsReady-judged tables statement work prepares.built prepares.right)
+
+-- nothing else is prepared
+pub no_other : (tables : Tables) (work : Judged) → CanDo tables work → ((table : Table) → work ≡ judged.Create table → ⊥) → ((name : List ℕ) → work ≡ judged.Drop name → ⊥)
+    → ((name file : List ℕ) → work ≡ judged.Load name file → ⊥) → ((form : JudgedSelect) → work ≡ judged.Select form → ⊥) → ⊥
+no_other tables (judged.Create table) can creates drops loads selects = creates table refl
+no_other tables (judged.Drop name) can creates drops loads selects = drops name refl
+no_other tables (judged.Load name file) can creates drops loads selects = loads name file refl
+no_other tables (judged.Select form) can creates drops loads selects = selects form refl
+no_other tables _ can creates drops loads selects = can

@@ -1,0 +1,13 @@
+pub mod ColumnLemmas
+pub mod GroupLemmas
+pub mod JoinLemmas
+pub mod MapLemmas
+pub mod MergedLemmas
+pub mod RelationLemmas
+pub mod RowLemmas
+pub mod TreeLemmas
+pub mod NameLemmas
+pub mod PlainLemmas
+pub mod OrderLaws
+pub mod JudgedLaws
+pub mod LawfulLaws

@@ -1,0 +1,6 @@
+pub mod Relation
+pub mod Names
+pub mod Plain
+pub mod Prepared
+pub mod Executes
+pub mod Selected

@@ -1,0 +1,177 @@
+//! Sessions: the appliance with what its statements change.
+
+ghost use Rattle.std.specs.Prelude.{◌≡◌, true, Ok, IfOk, IfErr, OnErr, OnOk};
+ghost use Rattle.std.specs.Option.{option_copied};
+ghost use Rattle.pdw_ast.specs.declared.query.Select.{Select as SelectOf};
+ghost use Rattle.pdw_ast.specs.declared.statement.Statement.TheVariants as statements;
+ghost use Rattle.pdw_ast.specs.declared.statement.Statement.{Statement as StatementOf};
+ghost use Rattle.pdw_bind.specs.Sound.{HaveColumns};
+ghost use Rattle.pdw_bind.specs.Written.{query_written, statement_written};
+ghost use Rattle.pdw_catalog.specs.Appliance.{CanCreate, HasTable, empty_of};
+ghost use Rattle.pdw_engine.specs.Executes.{Gives, IsGiven, LoadsContent, Selects, StopsLoad, StopsWork};
+ghost use Rattle.pdw_engine.specs.Plain.{SamePlain, plain_of, with_table, without_table};
+ghost use Rattle.pdw_engine.specs.Prepared as spec;
+ghost use Rattle.pdw_engine.specs.declared.answer.Answer.TheVariants as answers;
+ghost use Rattle.pdw_engine.specs.Prepared.{IsPrepared, Prepares, StopsFirst};
+ghost use Rattle.pdw_scope.specs.Statements.{judgement};
+ghost use Rattle.pdw_scope.specs.declared.judged.Judged.TheVariants as judged;
+
+use crate::answer::Answer;
+use crate::prepared::{Prepared, with_want};
+use crate::refusal::{Refusal, Stop};
+use crate::select::select;
+use pdw_ast::Statement;
+use pdw_base::{NoMemory, NodeCount, Str};
+use pdw_catalog::{Appliance, Table};
+use pdw_load::{LoadError, read_table};
+use pdw_scope::{JudgeFault, Judged, JudgedSelect, judge};
+use std::alloc::Global;
+use std::marker::Model;
+
+/// The greatest length of a file that a statement reads, in bytes.
+pub const MOST_FILE_BYTES: usize = 67_108_864;
+
+/// An appliance and what is executed over it.
+#[derive(Drop)]
+pub struct Session {
+    appliance: Appliance,
+}
+
+impl Model for Session {
+    ghost use Rattle.pdw_catalog.specs.Appliance.{Contents};
+    ghost use Rattle.pdw_engine.specs.Names.{HaveOwnNames};
+
+    ghost Value = { Contents };
+
+    ghost view = { λ session. session.appliance };
+
+    ghost invariant = { λ session. HaveOwnNames session.appliance.tables };
+}
+
+impl Session {
+    /// A session without tables.
+    pub fn new(alloc: Global, n: NodeCount) -> Result<Session, NoMemory>
+        ensures { IfOk result (λ session. session ≡ empty_of n) }
+    {
+        Ok(Session {
+            appliance: Appliance::new(alloc, n)?,
+        })
+    }
+
+    pub fn appliance(&self) -> &Appliance
+        ensures { result.now ≡ self.now }
+    {
+        &self.appliance
+    }
+
+    /// What a statement does, or why it is refused: a form that can't be executed yet, or else its first fault.
+    /// No statement that the grammar gives fails the condition.
+    pub fn prepare(&self, alloc: Global, stmt: &Statement) -> Result<Prepared, Stop>
+        requires { statement_written stmt.now ≡ true }
+        ensures prepared { IfOk result (λ prepared. Prepares self.now.tables stmt.now prepared) }
+        ensures stop { IfErr result (StopsFirst self.now.tables stmt.now) }
+    {
+        if !is_built(stmt) {
+            return Err(Stop::Refused(Refusal::NotBuilt));
+        }
+        match judge(alloc, self.appliance.catalog(), stmt) {
+            Ok(work) => Ok(with_want(alloc, work)?),
+            Err(JudgeFault::Memory) => Err(Stop::Memory),
+            Err(fault) => Err(Stop::Refused(Refusal::Judge(fault))),
+        }
+    }
+
+    /// Executes a statement that was prepared in this state, with the content of the file that it wants. Where it gives no
+    /// answer, the session is as it was; LOAD alone may be refused here.
+    pub fn execute(
+        &mut self,
+        alloc: Global,
+        p: Prepared,
+        file: Option<&[u8]>,
+    ) -> Result<Answer, Stop>
+        requires prepared { IsPrepared self.old.tables p }
+        requires given { IsGiven p (option_copied file) }
+        ensures answer { IfOk result (λ answer. (statement : StatementOf) → statement_written statement ≡ true → Prepares self.old.tables statement p → Gives (plain_of self.old) statement (option_copied file.entry) answer (plain_of self.new)) }
+        ensures stop { IfErr result (StopsWork (plain_of self.old) p (option_copied file.entry)) }
+        ensures kept { OnErr result (self.new ≡ self.old) }
+    {
+        match p.into_work() {
+            Judged::Create(table) => Ok(self.create(alloc, table)?),
+            Judged::Drop(name) => Ok(self.drop_table(&name)),
+            Judged::Load { table, .. } => self.load(alloc, &table, file.unwrap()),
+            Judged::Select(form) => Ok(self.select(alloc, &form)?),
+            _ => unreachable!(),
+        }
+    }
+
+    // Makes an empty table.
+    fn create(&mut self, alloc: Global, table: Table) -> Result<Answer, NoMemory>
+        requires { CanCreate self.old table }
+        ensures answer { IfOk result (λ answer. answer ≡ answers.Done) }
+        ensures created { OnOk result (SamePlain (with_table table (plain_of self.old)) (plain_of self.new)) }
+        ensures kept { OnErr result (self.new ≡ self.old) }
+    {
+        self.appliance.create_table(alloc, table)?;
+        Ok(Answer::Done)
+    }
+
+    // Removes a table with its rows.
+    fn drop_table(&mut self, name: &Str) -> Answer
+        requires { HasTable self.old name.now }
+        ensures answer { result ≡ answers.Done }
+        ensures dropped { SamePlain (without_table name.now (plain_of self.old)) (plain_of self.new) }
+    {
+        self.appliance.drop_table(name);
+        Answer::Done
+    }
+
+    // Adds the records of a file to a table.
+    fn load(&mut self, alloc: Global, name: &Str, content: &[u8]) -> Result<Answer, Stop>
+        requires { HasTable self.old name.now }
+        ensures loaded { IfOk result (λ answer. LoadsContent (plain_of self.old) name.now content.now answer (plain_of self.new)) }
+        ensures stop { IfErr result (StopsLoad (plain_of self.old) name.now content.now) }
+        ensures kept { OnErr result (self.new ≡ self.old) }
+    {
+        let table = self.appliance.table(name);
+        let most = table.placing.most_rows();
+        let rows = match read_table(alloc, content, table) {
+            Ok(rows) => rows,
+            Err(LoadError::Memory) => return Err(Stop::Memory),
+            Err(fault) => return Err(Stop::Refused(Refusal::Load(fault))),
+        };
+        if most - self.appliance.row_count(name) < rows.len() {
+            return Err(Stop::Refused(Refusal::Rows { most: most as u64 }));
+        }
+        let count = rows.len() as u64;
+        self.appliance.append_rows(alloc, name, rows)?;
+        Ok(Answer::Loaded(count))
+    }
+
+    // The rows of a SELECT, which has this numbered form.
+    fn select(&self, alloc: Global, form: &JudgedSelect) -> Result<Answer, NoMemory>
+        ensures { IfOk result (λ answer. (s : SelectOf) → query_written s.query ≡ true → judgement self.now.tables (statements.Select s) ≡ Ok (judged.Select form.now) → Selects (plain_of self.now) s answer (plain_of self.now)) }
+    {
+        self.tables_have_columns();
+        Ok(Answer::Rows(select(alloc, &self.appliance, form)?))
+    }
+
+    // What the law of the tree asks of tables.
+    fn tables_have_columns(&self)
+        ensures { HaveColumns self.now.tables }
+    {
+        let _ = self.appliance.catalog();
+    }
+}
+
+// Whether statements of this form are executed.
+fn is_built(statement: &Statement) -> bool
+    ensures { result ≡ spec.is_built statement.now }
+{
+    matches!(
+        statement,
+        Statement::CreateNamed { .. }
+            | Statement::Drop(_)
+            | Statement::Load { .. }
+            | Statement::Select(_)
+    )
+}
