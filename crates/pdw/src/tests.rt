@@ -1,8 +1,12 @@
 mod faults;
+mod judgement;
 mod limits;
+mod numbered;
 mod outside;
+mod queries;
 mod statements;
 mod texts;
+mod trees;
 mod words;
 
 use crate::run::run;
@@ -10,6 +14,7 @@ use crate::status::Status;
 use pdw_base::Str;
 use pdw_outside::{HonestFiles, HonestSink};
 use std::alloc::Global;
+use std::process::Abort;
 use std::test::Fail;
 
 // A script of 100 bytes.
@@ -62,4 +67,20 @@ fn outcome(
     let mut out = HonestSink::new(alloc, 4_000_000)?;
     let status = run(alloc, words.as_slice(), &mut files, &mut out);
     Ok((status, Vec::from_slice(alloc, out.written())?))
+}
+
+// A run of the words that is to end so and to write this text.
+fn assert_outcome(
+    rt: &impl Abort,
+    alloc: Global,
+    words: &[&str],
+    script: &[u8],
+    table: &[u8],
+    status: Status,
+    printed: &[u8],
+) -> Result<(), Fail> {
+    let (ended, text) = outcome(alloc, words, script, table)?;
+    assert_eq!(rt; ended, status, "{words:?}");
+    assert_eq!(rt; text.as_slice(), printed, "{words:?}");
+    Ok(())
 }

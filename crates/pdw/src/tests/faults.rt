@@ -1,14 +1,21 @@
-use super::{outcome, repeated};
+use super::{assert_outcome, outcome};
 use crate::status::Status;
 use std::alloc::Global;
+use std::process::Abort;
 use std::test::Fail;
 
 const SCRIPT: &[u8] =
     b"CREATE TABLE t (a INT NOT NULL, b TEXT) WITH (DISTRIBUTION = HASH(b));\nLOAD t FROM 't.csv';\nSELECT * FROM t;\n";
 
-// How the load of a table ends, and what is printed.
-fn loaded(alloc: Global, table: &[u8]) -> Result<(Status, Vec<u8>), Fail> {
-    outcome(alloc, &["run", "3", "s"], SCRIPT, table)
+// A load of a table that is to be refused with this text.
+fn assert_refused(
+    rt: &impl Abort,
+    alloc: Global,
+    table: &[u8],
+    printed: &[u8],
+) -> Result<(), Fail> {
+    let words = &["run", "3", "s"];
+    assert_outcome(rt, alloc, words, SCRIPT, table, Status::Refused, printed)
 }
 
 #[test]
@@ -34,27 +41,35 @@ fn the_first_faulty_record_is_named(rt: HostRuntime) -> Result<(), Fail> {
         ),
         (b"x,\xFF\n1\n", b"OK\nREFUSED E17 STATEMENT 2 BADINT 1 1\n"),
     ] {
-        let (status, text) = loaded(rt.alloc(), table)?;
-        assert_eq!(rt; status, Status::Refused);
-        assert_eq!(rt; text.as_slice(), printed);
+        assert_refused(&rt, rt.alloc(), table, printed)?;
     }
+    Ok(())
+}
+
+// A table whose second record has a text of so many bytes.
+fn with_text(alloc: Global, length: usize) -> Result<Vec<u8>, Fail> {
+    let mut table = Vec::from_slice(alloc, b"1,x\n2,")?;
+    for _ in 0..length {
+        table.push(b'y')?;
+    }
+    Ok(table)
+}
+
+#[test]
+fn a_text_of_the_most_bytes_is_loaded(rt: HostRuntime) -> Result<(), Fail> {
+    let table = with_text(rt.alloc(), 1_000)?;
+    let (status, _) = outcome(rt.alloc(), &["run", "3", "s"], SCRIPT, table.as_slice())?;
+    assert_eq!(rt; status, Status::Done);
     Ok(())
 }
 
 #[test]
 fn a_text_of_more_bytes_than_the_limit_is_named(rt: HostRuntime) -> Result<(), Fail> {
-    let alloc = rt.alloc();
-    for (length, status) in [(1_000, Status::Done), (1_001, Status::Refused)] {
-        let mut table = Vec::from_slice(alloc, b"1,x\n2,")?;
-        table.extend_from_slice(repeated(alloc, b"y", length)?.as_slice())?;
-        let (ended, text) = loaded(alloc, table.as_slice())?;
-        assert_eq!(rt; ended, status, "{length}");
-        if status == Status::Refused {
-            assert_eq!(rt;
-                text.as_slice(),
-                b"OK\nREFUSED E17 STATEMENT 2 LONGTEXT 2 2\n".as_slice()
-            );
-        }
-    }
-    Ok(())
+    let table = with_text(rt.alloc(), 1_001)?;
+    assert_refused(
+        &rt,
+        rt.alloc(),
+        table.as_slice(),
+        b"OK\nREFUSED E17 STATEMENT 2 LONGTEXT 2 2\n",
+    )
 }

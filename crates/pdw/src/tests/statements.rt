@@ -1,6 +1,7 @@
-use super::outcome;
+use super::assert_outcome;
 use crate::status::Status;
 use std::alloc::Global;
+use std::process::Abort;
 use std::test::Fail;
 
 // A table of one hash column, and one that is replicated.
@@ -8,10 +9,18 @@ const HASHED: &str = "CREATE TABLE t (a INT, b TEXT) WITH (DISTRIBUTION = HASH(a
 
 const COPIED: &str = "CREATE TABLE r (a INT) WITH (DISTRIBUTION = REPLICATE);";
 
-// How a script over a file of the record 1 ends, and what it prints.
-fn run_of(alloc: Global, first: &str, rest: &str) -> Result<(Status, Vec<u8>), Fail> {
+// A script over a file of the record 1, which is to end so and to print this.
+fn assert_run(
+    rt: &impl Abort,
+    alloc: Global,
+    first: &str,
+    rest: &str,
+    status: Status,
+    printed: &[u8],
+) -> Result<(), Fail> {
     let script = format!(in alloc; "{first}{rest}")?;
-    outcome(alloc, &["run", "3", "s"], script.as_bytes(), b"1\n")
+    let words = &["run", "3", "s"];
+    assert_outcome(rt, alloc, words, script.as_bytes(), b"1\n", status, printed)
 }
 
 #[test]
@@ -36,9 +45,7 @@ fn statements_are_executed_in_order(rt: HostRuntime) -> Result<(), Fail> {
             b"OK\nLOADED 1\nOK\nOK\nb\nROWS 0\n",
         ),
     ] {
-        let (status, text) = run_of(rt.alloc(), first, rest)?;
-        assert_eq!(rt; status, Status::Done, "{rest}");
-        assert_eq!(rt; text.as_slice(), printed, "{rest}");
+        assert_run(&rt, rt.alloc(), first, rest, Status::Done, printed)?;
     }
     Ok(())
 }
@@ -79,11 +86,22 @@ fn the_first_fault_of_a_statement_is_printed(rt: HostRuntime) -> Result<(), Fail
             b"OK\nREFUSED E17 STATEMENT 2 FIELDCOUNT 1\n",
         ),
     ] {
-        let (status, text) = run_of(rt.alloc(), HASHED, rest)?;
-        assert_eq!(rt; status, Status::Refused, "{rest}");
-        assert_eq!(rt; text.as_slice(), printed, "{rest}");
+        assert_run(&rt, rt.alloc(), HASHED, rest, Status::Refused, printed)?;
     }
     Ok(())
+}
+
+// A statement of a form that is refused, with another after it.
+fn assert_not_built(rt: &impl Abort, alloc: Global, form: &str) -> Result<(), Fail> {
+    let rest = format!(in alloc; "{form}; DROP TABLE t;")?;
+    assert_run(
+        rt,
+        alloc,
+        HASHED,
+        rest.as_str(),
+        Status::Refused,
+        b"OK\nREFUSED E19 STATEMENT 2 NOTBUILT\n",
+    )
 }
 
 #[test]
@@ -109,14 +127,7 @@ fn other_forms_are_not_built(rt: HostRuntime) -> Result<(), Fail> {
         "PROFILE SELECT * FROM t",
         "CHECK PLAN 'p' FOR SELECT * FROM t",
     ] {
-        let rest = format!(in rt.alloc(); "{form}; DROP TABLE t;")?;
-        let (status, text) = run_of(rt.alloc(), HASHED, rest.as_str())?;
-        assert_eq!(rt; status, Status::Refused, "{form}");
-        assert_eq!(rt;
-            text.as_slice(),
-            b"OK\nREFUSED E19 STATEMENT 2 NOTBUILT\n".as_slice(),
-            "{form}"
-        );
+        assert_not_built(&rt, rt.alloc(), form)?;
     }
     Ok(())
 }

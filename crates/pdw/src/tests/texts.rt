@@ -1,5 +1,7 @@
-use super::{PRINTED, SCRIPT, TABLE, outcome, repeated};
+use super::{PRINTED, SCRIPT, TABLE, assert_outcome, outcome};
 use crate::status::Status;
+use std::alloc::Global;
+use std::process::Abort;
 use std::test::Fail;
 
 #[test]
@@ -16,23 +18,35 @@ fn rows_are_printed_as_their_kinds_are(rt: HostRuntime) -> Result<(), Fail> {
             b"OK\nLOADED 3\na,b\n1,\"a \"\"b\"\", c\nd\"\n2,\"\"\"\"\nNULL,NULL\nROWS 3\n",
         ),
     ] {
-        let (status, text) = outcome(rt.alloc(), &["run", "1", "s"], SCRIPT, table)?;
-        assert_eq!(rt; status, Status::Done);
-        assert_eq!(rt; text.as_slice(), printed);
+        assert_outcome(
+            &rt,
+            rt.alloc(),
+            &["run", "1", "s"],
+            SCRIPT,
+            table,
+            Status::Done,
+            printed,
+        )?;
     }
+    Ok(())
+}
+
+// A run at so many nodes prints the rows in one of the two orders.
+fn assert_rows(rt: &impl Abort, alloc: Global, nodes: &str) -> Result<(), Fail> {
+    let turned = b"OK\nLOADED 2\na,b\nNULL,\"y\"\n4,\"x\"\nROWS 2\n";
+    let (status, text) = outcome(alloc, &["run", nodes, "s"], SCRIPT, TABLE)?;
+    assert_eq!(rt; status, Status::Done, "{nodes}");
+    assert!(rt;
+        text.as_slice() == PRINTED || text.as_slice() == turned.as_slice(),
+        "{nodes}"
+    );
     Ok(())
 }
 
 #[test]
 fn the_rows_of_nodes_follow_one_another(rt: HostRuntime) -> Result<(), Fail> {
-    let turned = b"OK\nLOADED 2\na,b\nNULL,\"y\"\n4,\"x\"\nROWS 2\n";
     for nodes in ["1", "2", "3", "16"] {
-        let (status, text) = outcome(rt.alloc(), &["run", nodes, "s"], SCRIPT, TABLE)?;
-        assert_eq!(rt; status, Status::Done, "{nodes}");
-        assert!(rt;
-            text.as_slice() == PRINTED || text.as_slice() == turned.as_slice(),
-            "{nodes}"
-        );
+        assert_rows(&rt, rt.alloc(), nodes)?;
     }
     Ok(())
 }
@@ -63,21 +77,39 @@ fn the_first_fault_of_a_text_is_printed(rt: HostRuntime) -> Result<(), Fail> {
             b"REFUSED E6 SYNTAX AT 59\n",
         ),
     ] {
-        let (status, text) = outcome(rt.alloc(), &["run", "3", "s"], script, TABLE)?;
-        assert_eq!(rt; status, Status::Refused);
-        assert_eq!(rt; text.as_slice(), printed);
+        assert_outcome(
+            &rt,
+            rt.alloc(),
+            &["run", "3", "s"],
+            script,
+            TABLE,
+            Status::Refused,
+            printed,
+        )?;
     }
     Ok(())
 }
 
+// A LOAD of a file whose name has so many bytes.
+fn load_of(alloc: Global, length: usize) -> Result<Vec<u8>, Fail> {
+    let mut script = Vec::from_slice(alloc, b"LOAD t FROM '")?;
+    for _ in 0..length {
+        script.push(b'f')?;
+    }
+    script.extend_from_slice(b"';")?;
+    Ok(script)
+}
+
 #[test]
 fn a_text_too_long_is_refused(rt: HostRuntime) -> Result<(), Fail> {
-    let alloc = rt.alloc();
-    let mut script = Vec::from_slice(alloc, b"LOAD t FROM '")?;
-    script.extend_from_slice(repeated(alloc, b"f", 1_001)?.as_slice())?;
-    script.extend_from_slice(b"';")?;
-    let (status, text) = outcome(alloc, &["run", "1", "s"], script.as_slice(), TABLE)?;
-    assert_eq!(rt; status, Status::Refused);
-    assert_eq!(rt; text.as_slice(), b"REFUSED E5 LONGTEXT AT 12\n".as_slice());
-    Ok(())
+    let script = load_of(rt.alloc(), 1_001)?;
+    assert_outcome(
+        &rt,
+        rt.alloc(),
+        &["run", "1", "s"],
+        script.as_slice(),
+        TABLE,
+        Status::Refused,
+        b"REFUSED E5 LONGTEXT AT 12\n",
+    )
 }

@@ -1,6 +1,21 @@
 use super::{SCRIPT, TABLE, outcome};
 use crate::status::Status;
+use std::alloc::Global;
+use std::process::Abort;
 use std::test::Fail;
+
+// A run of the words is to end so, and it prints nothing where they have another form.
+fn assert_ended(
+    rt: &impl Abort,
+    alloc: Global,
+    words: &[&str],
+    status: Status,
+) -> Result<(), Fail> {
+    let (ended, text) = outcome(alloc, words, SCRIPT, TABLE)?;
+    assert_eq!(rt; ended, status, "{words:?}");
+    assert_eq!(rt; text.is_empty(), status == Status::BadWords, "{words:?}");
+    Ok(())
+}
 
 #[test]
 fn words_of_another_form_run_nothing(rt: HostRuntime) -> Result<(), Fail> {
@@ -23,9 +38,7 @@ fn words_of_another_form_run_nothing(rt: HostRuntime) -> Result<(), Fail> {
         (&["run", "", "s"], Status::BadWords),
         (&["run", "4294967300", "s"], Status::BadWords),
     ] {
-        let (ended, text) = outcome(rt.alloc(), words, SCRIPT, TABLE)?;
-        assert_eq!(rt; ended, status, "{words:?}");
-        assert_eq!(rt; text.is_empty(), status == Status::BadWords, "{words:?}");
+        assert_ended(&rt, rt.alloc(), words, status)?;
     }
     Ok(())
 }
