@@ -18,7 +18,7 @@ printf 'SELECT a FROM' >cut_off.sql
 : >empty.sql
 {
     cat s.sql
-    echo 'SELECT a FROM t; DROP TABLE t;'
+    echo 'SET BUDGET 5; DROP TABLE t;'
 } >not_built.sql
 sed 's/t.csv/none.csv/' s.sql >no_file.sql
 
@@ -46,6 +46,12 @@ in_little_memory() {
     )
 }
 
+in_folder() {
+    (
+        cd "$1" && shift && "$@"
+    )
+}
+
 seq 1 900000 >many.csv
 sed 's/t.csv/many.csv/; s/, b TEXT//' s.sql >many.sql
 
@@ -55,6 +61,7 @@ expect 'one node' 0 "$(printf 'OK\nLOADED 2\na,b\n4,"x"\nNULL,"y"\nROWS 2')" "$t
 expect 'an empty script' 0 '' "$top/pdw" run 3 empty.sql
 expect refused 1 'REFUSED E6 SYNTAX AT 13' "$top/pdw" run 3 cut_off.sql
 expect 'not built' 1 "$(printf 'OK\nLOADED 2\na,b\n4,"x"\nNULL,"y"\nROWS 2\nREFUSED E19 STATEMENT 4 NOTBUILT')" "$top/pdw" run 1 not_built.sql
+expect 'joins, groups and subqueries' 0 "$(printf 'OK\nOK\nOK\nOK\nOK\nLOADED 7\nLOADED 3\nLOADED 3\nLOADED 3\nLOADED 3\nregion,month,total,n\n"north",1,15,3\n"south",1,4,1\nROWS 2\nkind\n"tea"\nROWS 1')" in_folder "$top/examples/star" "$top/pdw" run 4 s.sql
 expect 'no words' 2 '' "$top/pdw"
 expect 'no nodes' 2 '' "$top/pdw" run 0 s.sql
 expect 'too many nodes' 2 '' "$top/pdw" run 17 s.sql

@@ -1,9 +1,12 @@
 pub mod WordLemmas
 pub mod TextLemmas
 pub mod ReadingLemmas
-pub mod JudgeLemmas
-pub mod NameLemmas
-pub mod PlainLemmas
+pub mod WrittenScripts
+pub mod PerformLemmas
 pub mod RunLemmas
 pub mod CompleteLemmas
+pub mod OrderedRows
+pub mod NamedSteps
+pub mod NamedQueries
+pub mod NamedStatements
 pub mod WholeLemmas

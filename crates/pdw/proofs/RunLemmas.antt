@@ -1,37 +1,34 @@
 -- Statements that are executed one after the other.
-use Rattle.std.proofs.Common.{◌≡◌, ℕ, ◌+◌, ◌<◌, List, [], ◌∷◌, length, drop, get_or, refl, sym, ap, subst, inl, inr, append_assoc, append-nil, Option, None, Some}
+use Rattle.std.proofs.Common.{◌≡◌, ℕ, ◌+◌, ◌<◌, Bool, true, false, true≢false, List, [], ◌∷◌, length, drop, get_or, refl, sym, ap, ◌∙◌, subst, inl, inr, append_assoc, append-nil, Option, None, Some, Result, Ok, Err, IfOk, OnErr}
+use Rattle.std.specs.List.{list_all}
+use Rattle.std.proofs.lemmas.List.Folds.{list_all_at}
 use Rattle.pdw_base.proofs.Steps.{drop-one_more}
+use Rattle.pdw_outside.proofs.SinkLemmas.{adds_none}
+use Rattle.pdw_outside.specs.Sink.{Adds}
 use Rattle.pdw_outside.specs.Whole.{IsContent}
 use Rattle.pdw_ast.specs.declared.statement.Statement.{Statement}
-use Rattle.pdw.specs.declared.task.Task.{Task}
-use Rattle.pdw.specs.declared.task.Task.TheVariants as task
-use Rattle.pdw.specs.Output.{Does, End, Cut, Refused, Stopped, EndsIn, EndsLine, Gives, Held, Refuses, Writes}
-use Rattle.pdw.specs.Perform.{HaveOwnNames}
-use Rattle.pdw.specs.Plain.{Plain}
+use Rattle.pdw_bind.specs.Written.{statement_written}
+use Rattle.pdw.specs.Output.{End, Cut, Refused, Stopped, EndsIn, EndsLine, Gives, Held, Refuses, Writes}
+use Rattle.pdw_engine.specs.Plain.{Plain}
 use Rattle.pdw.specs.Trace.{Trace, cut_at, followed_by, nothing, prints}
 use Rattle.pdw.specs.declared.status.Status.{Status}
 use Rattle.pdw.specs.declared.status.Status.TheVariants as status
 use Rattle.pdw.specs.Run.{EndsBy, EndsRefused, Steps}
-use Rattle.pdw.proofs.JudgeLemmas.{IsReady, IsReady-judged}
-use Rattle.pdw.proofs.NameLemmas.{HaveOwnNames-pushed, HaveOwnNames-removed}
-
--- a task leaves tables with names of their own
-HaveOwnNames-does : (held : Held) (old new : Plain) (work : Task) (trace : Trace) → HaveOwnNames old.tables → IsReady old.tables work → Does held old work trace new → HaveOwnNames new.tables
-HaveOwnNames-does held old new (task.Create table) trace own ready does = subst HaveOwnNames (sym does.1.tables) (HaveOwnNames-pushed table.name table old.tables ready.0 own)
-HaveOwnNames-does held old new (task.Drop name) trace own ready does = subst HaveOwnNames (sym does.1.tables) (HaveOwnNames-removed name old.tables own)
-HaveOwnNames-does held old new (task.Load name file) trace own ready does = subst HaveOwnNames (sym does.2.gained.tables) own
-HaveOwnNames-does held old new (task.Select name) trace own ready does = subst HaveOwnNames (sym does.same.tables) own
-
--- and so does a statement
-pub HaveOwnNames-gives : (held : Held) (old new : Plain) (statement : Statement) (trace : Trace) → HaveOwnNames old.tables → Gives held old statement trace new → HaveOwnNames new.tables
-HaveOwnNames-gives held old new statement trace own gives =
-    HaveOwnNames-does held old new gives.task trace own (IsReady-judged old.tables statement gives.task gives.right) gives.does
 
 followed_by-assoc : (first second third : Trace) → followed_by (followed_by first second) third ≡ followed_by first (followed_by second third)
 followed_by-assoc first second third = ap prints (append_assoc first.text second.text third.text)
 
 pub followed_by-nothing : (trace : Trace) → followed_by trace nothing ≡ trace
 followed_by-nothing trace = ap prints (append-nil trace.text)
+
+-- each statement of a script that is written whole is so
+pub one_written : (statements : List Statement) (place : ℕ) (statement : Statement) → place < length statements → statement ≡ get_or statements place statement
+    → list_all statement_written statements ≡ true → statement_written statement ≡ true
+one_written statements place statement within item all = by (statement_written statement) refl
+  where
+    by : (b : Bool) → statement_written statement ≡ b → b ≡ true
+    by true is = refl
+    by false is = absurd (true≢false (sym all ∙ list_all_at statement_written statements place statement within (ap statement_written (sym item) ∙ is)))
 
 -- what is left of the statements at a place of the loop
 module _ (statements : List Statement) (place : ℕ) (statement : Statement) (within : place < length statements) (item : statement ≡ get_or statements place statement) where
@@ -93,3 +90,12 @@ Steps-refused held k state statement next before after old new earlier later lin
 Steps-refused held k state statement next before after old new earlier later line status.WriteFault refuses ends =
     (Cut, cut_at ends.0 (prints line), refl, (prints line, ends.0, inr (line, refuses, refl), refl), ends.1)
 Steps-refused held k state statement next before after old new earlier later line status.Memory refuses ends = absurd ends
+
+-- or there is not the memory to make the line, and then nothing is written
+pub Steps-refused_by : (held : Held) (k : ℕ) (state : Plain) (statement : Statement) (next : Plain) (before after : List ℕ → ℕ) (old new : Option (List ℕ)) (earlier later : ℕ) (line : List ℕ) (now : Status)
+    {T E : Type 0} (made : Result T E) (bytes : T → List ℕ) → Refuses held k state statement line → IfOk made (λ text. bytes text ≡ line) → IfOk made (λ text. EndsRefused now old new earlier later (bytes text))
+    → OnErr made ((now ≡ status.Memory) × (new ≡ old) × (later ≡ earlier)) → Steps held k state statement next before after old new now
+Steps-refused_by held k state statement next before after old new earlier later line now (Ok text) bytes refuses is ends memory =
+    Steps-refused held k state statement next before after old new earlier later line now refuses (subst (EndsRefused now old new earlier later) is ends)
+Steps-refused_by held k state statement next before after old new earlier later line now (Err e) bytes refuses is ends (none, same, count) =
+    subst (Steps held k state statement next before after old new) (sym none) (Stopped, nothing, refl, refl, subst (λ (o : Option (List ℕ)). Adds old o []) (sym same) (adds_none old))

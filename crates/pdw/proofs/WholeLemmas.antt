@@ -1,93 +1,115 @@
 -- Every statement can be executed or is refused, so what was written can be gone on with to a whole output.
-use Rattle.std.proofs.Common.{◌≡◌, ◌⊎◌, ℕ, ◌+◌, ◌≤◌, List, [], ◌∷◌, ◌++◌, length, map, take, drop, codes, refl, sym, ap, ◌∙◌, subst, inl, inr, arith, append_assoc, Option, None, Some, IsSome, Result, Ok, Err}
+use Rattle.std.proofs.Common.{◌≡◌, ◌⊎◌, ℕ, ◌+◌, ◌≤◌, Bool, true, false, List, [], ◌∷◌, ◌++◌, length, take, drop, codes, refl, sym, ap, ◌∙◌, subst, inl, inr, arith, append_assoc, Option, None, Some, IsSome, Result, Ok, Err}
 use Rattle.std.proofs.lemmas.List.{take-append-drop}
-use Rattle.std.proofs.lemmas.List.Sorted.{IsPermutation-refl}
 use native.Mathlib.Decide.{dec_le}
-use Rattle.pdw_catalog.specs.declared.table.Table.{Table}
-use Rattle.pdw_catalog.specs.Table.{most_rows}
+use Rattle.pdw_ast.specs.declared.query.Select.{Select}
+use Rattle.pdw_ast.specs.declared.statement.Statement.{Statement}
+use Rattle.pdw_ast.specs.declared.statement.Statement.TheVariants as s
 use Rattle.pdw_catalog.specs.Catalog.{table_named}
+use Rattle.pdw_catalog.specs.Table.{most_rows}
+use Rattle.pdw_catalog.specs.declared.table.Table.{Table}
+use Rattle.pdw_engine.proofs.JudgedLaws.{IsReady, IsReady-judged}
+use Rattle.pdw_engine.proofs.PlainLemmas.{SamePlain-refl}
+use Rattle.pdw_engine.specs.Executes.{Does, IsGiven, Selects, SelectsBy}
+use Rattle.pdw_engine.specs.Plain.{Plain, database_of, start, with_rows, with_table, without_table}
+use Rattle.pdw_engine.specs.Prepared.{Prepares, is_built, wanted}
+use Rattle.pdw_engine.specs.declared.answer.Answer.{Answer}
+use Rattle.pdw_engine.specs.declared.answer.Answer.TheVariants.{Done, Loaded, Rows}
+use Rattle.pdw_engine.specs.declared.refusal.Refusal.TheVariants as refusal
+use Rattle.pdw_engine.specs.declared.session.TheConstants.{MOST_FILE_BYTES}
 use Rattle.pdw_load.specs.Records.{records_of, faults_of, rows_of}
 use Rattle.pdw_load.specs.declared.load_error.LoadError.{LoadError}
+use Rattle.pdw_meaning.specs.Answer.{answer as answer_of, order_of}
+use Rattle.pdw_meaning.specs.Queries.{query}
 use Rattle.pdw_outside.specs.Whole.{IsContent}
-use Rattle.pdw.specs.declared.refusal.TheConstants.{MOST_FILE_BYTES}
-use Rattle.pdw_ast.specs.declared.statement.Statement.{Statement}
-use Rattle.pdw.specs.Judge.{judged}
-use Rattle.pdw.specs.Output.{BeginsOutput, Cut, Does, End, EndsLine, Fails, Finished, Gives, Held, IsWhole, Outputs, Refused, Refuses, ScriptWrites, Writes}
-use Rattle.pdw.specs.Plain.{Plain, start, with_rows, with_table, without_table}
-use Rattle.pdw.specs.Refusal.{fault_line, limit_line, long_script_line}
+use Rattle.pdw_scope.specs.Statements.{judgement}
+use Rattle.pdw_scope.specs.declared.fault.JudgeFault.{JudgeFault}
+use Rattle.pdw_scope.specs.declared.judged.Judged.{Judged}
+use Rattle.pdw_scope.specs.declared.judged.Judged.TheVariants as judged
+use Rattle.pdw_scope.specs.declared.judged.JudgedSelect.{JudgedSelect}
+use Rattle.pdw.specs.Output.{BeginsOutput, Cut, End, EndsLine, FailsContent, Finished, Gives, Held, IsTold, IsWhole, Outputs, Refused, Refuses, ScriptWrites, Writes}
+use Rattle.pdw.specs.Refusal.{limit_line, long_script_line}
 use Rattle.pdw.specs.RefusalLine.{refusal_line}
-use Rattle.pdw.specs.declared.refusal.Refusal.{Refusal}
-use Rattle.pdw.specs.declared.task.Task.{Task}
-use Rattle.pdw.specs.declared.task.Task.TheVariants as task
-use Rattle.pdw.specs.Text.{done_text, loaded_text, rows_text}
+use Rattle.pdw.specs.Text.{answer_text}
 use Rattle.pdw.specs.Trace.{Trace, cut_at, followed_by, nothing, prints}
-use Rattle.pdw.proofs.PlainLemmas.{SamePlain-refl}
-use Rattle.pdw.proofs.JudgeLemmas.{IsReady, IsReady-judged}
+use Rattle.pdw.proofs.NamedStatements.{judgement_names}
+use Rattle.pdw.proofs.OrderedRows.{some_ordered}
 use Rattle.pdw.proofs.RunLemmas.{some_content}
-
--- what was judged is done in a state or fails
-abbrev Work : Held → ℕ → Plain → Task → Type 0
-Work held k old work = ((trace : Trace) × (new : Plain) × Does held old work trace new) ⊎ ((line : List ℕ) × Fails held k old work line)
-
-table_there : (found : Option Table) → IsSome found → (table : Table) × (found ≡ Some table)
-table_there None there = absurd (cc)
-table_there (Some table) there = (table, refl)
-
-module _ (held : Held) (k : ℕ) (old : Plain) (name file : List ℕ) (table : Table) (there : table_named name old.tables ≡ Some table) (content : List ℕ) (told : IsContent (held file) content) where
-  load_short : length content ≤ MOST_FILE_BYTES → (faults : List LoadError) → faults_of table (records_of content) ≡ faults → Work held k old (task.Load name file)
-  load_short short (fault ∷ rest) found =
-      inr (fault_line k fault, (content, told, record { table = table; there = there; fault = inr (inl (short, fault, rest, found, refl)) }))
-  load_short short [] found =
-      elim (dec_le (length (old.rows name) + length (records_of content)) (most_rows table.placing)) [
-        | yes room ↦
-            inl (
-              prints (loaded_text (length (records_of content))),
-              with_rows name (rows_of table (records_of content)) old,
-              (content, told, record { table = table; there = there; short = short; sound = found; room = room; printed = refl; gained = SamePlain-refl _ }),
-            )
-        | no full ↦
-            inr (
-              limit_line k (codes "rows") (most_rows table.placing),
-              (content, told, record { table = table; there = there; fault = inr (inr (short, found, omega arith, refl)) }),
-            )
-      ]
-
-  load_answers : Work held k old (task.Load name file)
-  load_answers =
-      elim (dec_le (length content) MOST_FILE_BYTES) [
-        | yes short ↦ load_short short (faults_of table (records_of content)) refl
-        | no long ↦ inr (limit_line k (codes "file") MOST_FILE_BYTES, (content, told, record { table = table; there = there; fault = inl (omega arith, refl) }))
-      ]
-
-works : (held : Held) (k : ℕ) (old : Plain) (work : Task) → IsReady old.tables work → Work held k old work
-works held k old (task.Create table) ready = inl (prints done_text, with_table table old, (refl, SamePlain-refl _))
-works held k old (task.Drop name) ready = inl (prints done_text, without_table name old, (refl, SamePlain-refl _))
-works held k old (task.Load name file) ready =
-    let table = table_there (table_named name old.tables) ready in
-    let content = some_content (held file) in
-    load_answers held k old name file table.0 table.1 content.0 content.1
-works held k old (task.Select name) ready =
-    let table = table_there (table_named name old.tables) ready in
-    inl (
-      prints (rows_text (map (λ column. column.name) table.0.columns) (old.rows name)),
-      old,
-      record { table = table.0; there = table.1; rows = old.rows name; answer = IsPermutation-refl _; printed = refl; same = SamePlain-refl old },
-    )
 
 -- a statement in a state gives a text or is refused
 abbrev Answers : Held → ℕ → Plain → Statement → Type 0
 Answers held k old statement = ((trace : Trace) × (new : Plain) × Gives held old statement trace new) ⊎ ((line : List ℕ) × Refuses held k old statement line)
 
-answers_by : (held : Held) (k : ℕ) (old : Plain) (statement : Statement) (right : Result Task Refusal) → judged old.tables statement ≡ right → Answers held k old statement
-answers_by held k old statement (Err fault) is = inr (refusal_line k fault, inl (fault, is, refl))
-answers_by held k old statement (Ok work) is = by (works held k old work (IsReady-judged old.tables statement work is))
-  where
-    by : Work held k old work → Answers held k old statement
-    by (inl (trace, new, does)) = inl (trace, new, record { task = work; right = is; does = does })
-    by (inr (line, fails)) = inr (line, inr (work, is, fails))
+table_there : (found : Option Table) → IsSome found → (table : Table) × (found ≡ Some table)
+table_there None there = absurd (cc)
+table_there (Some table) there = (table, refl)
 
-answers : (held : Held) (k : ℕ) (old : Plain) (statement : Statement) → Answers held k old statement
-answers held k old statement = answers_by held k old statement (judged old.tables statement) refl
+-- the rows of a SELECT, in an order that its keys allow
+selected : (old : Plain) (select : Select) → (answer : Answer) × Selects old select answer old
+selected old select =
+    let names = (query (database_of old) select.query).names in
+    let found = some_ordered (order_of names select.order) (answer_of (database_of old) select) in (
+      Rows (record { names = names; rows = found.0 }),
+      record { rows = found.0; lawful = record { rearranged = found.1; ordered = found.2 }; answered = refl; same = SamePlain-refl old },
+    )
+
+module _ (held : Held) (k : ℕ) (old : Plain) (statement : Statement) where
+  -- what was judged is done, with the file that it wants
+  does : (work : Judged) → Prepares old.tables statement work → (file : Option (List ℕ)) (answer : Answer) (new : Plain) → IsGiven work file → IsTold held (wanted work) file → Does old statement work file answer new → Answers held k old statement
+  does work prepares file answer new given told done = inl (
+    prints (answer_text answer),
+    new,
+    record { file = file; answer = answer; answered = record { work = work; prepares = prepares; given = given; does = done }; told = told; printed = refl },
+  )
+
+  -- or it fails
+  fails : (name file content line : List ℕ) → Prepares old.tables statement (judged.Load name file) → IsContent (held file) content → FailsContent k old (judged.Load name file) content line → Answers held k old statement
+  fails name file content line prepares told fault = inr (line, inr (judged.Load name file, prepares, record { file = file; wants = refl; content = content; told = told; fault = fault }))
+
+  module _ (name file content : List ℕ) (prepares : Prepares old.tables statement (judged.Load name file)) (told : IsContent (held file) content) (table : Table) (there : table_named name old.tables ≡ Some table) where
+    load_short : length content ≤ MOST_FILE_BYTES → (faults : List LoadError) → faults_of table (records_of content) ≡ faults → Answers held k old statement
+    load_short short (fault ∷ rest) found =
+        fails name file content (refusal_line k (refusal.Load fault)) prepares told (inr (short, refusal.Load fault, (table, there, (rest, found)), refl))
+    load_short short [] found =
+        elim (dec_le (length (old.rows name) + length (records_of content)) (most_rows table.placing)) [
+          | yes room ↦
+              does (judged.Load name file) prepares (Some content) (Loaded (length (records_of content))) (with_rows name (rows_of table (records_of content)) old) short told
+              (record { table = table; there = there; sound = found; room = room; answered = refl; gained = SamePlain-refl _ })
+          | no full ↦
+              fails name file content (refusal_line k (refusal.Rows (most_rows table.placing))) prepares told
+              (inr (short, refusal.Rows (most_rows table.placing), (table, there, (found, refl, omega arith)), refl))
+        ]
+
+    loads : Answers held k old statement
+    loads =
+        elim (dec_le (length content) MOST_FILE_BYTES) [
+          | yes short ↦ load_short short (faults_of table (records_of content)) refl
+          | no long ↦ fails name file content (limit_line k (codes "file") MOST_FILE_BYTES) prepares told (inl (omega arith, refl))
+        ]
+
+  selects : (form : JudgedSelect) → Prepares old.tables statement (judged.Select form) → (select : Select) → statement ≡ s.Select select → Answers held k old statement
+  selects form prepares select is =
+      let found = selected old select in
+      does (judged.Select form) prepares None found.0 old tt tt (subst (λ x. SelectsBy old x found.0 old) (sym is) found.1)
+
+  works : (work : Judged) → Prepares old.tables statement work → IsReady old.tables statement work → Answers held k old statement
+  works (judged.Create table) prepares ready = does (judged.Create table) prepares None Done (with_table table old) tt tt (refl, SamePlain-refl _)
+  works (judged.Drop name) prepares ready = does (judged.Drop name) prepares None Done (without_table name old) tt tt (refl, SamePlain-refl _)
+  works (judged.Load name file) prepares ready =
+      let table = table_there (table_named name old.tables) ready in
+      let content = some_content (held file) in
+      loads name file content.0 prepares content.1 table.0 table.1
+  works (judged.Select form) prepares ready = selects form prepares ready.0 ready.1
+  works _ prepares ready = absurd ready
+
+  answers_by : (built : Bool) → is_built statement ≡ built → (right : Result Judged JudgeFault) → judgement old.tables statement ≡ right → Answers held k old statement
+  answers_by false other right is = inr (refusal_line k refusal.NotBuilt, inl (refusal.NotBuilt, other, refl))
+  answers_by true built (Err fault) is =
+      inr (refusal_line k (refusal.Judge fault), inl (refusal.Judge fault, (built, is, judgement_names old.tables statement fault is), refl))
+  answers_by true built (Ok work) is = works work (record { built = built; right = is }) (IsReady-judged old.tables statement work built is)
+
+  answers : Answers held k old statement
+  answers = answers_by (is_built statement) refl (judgement old.tables statement) refl
 
 -- statements have a whole output
 abbrev Whole : Held → ℕ → Plain → List Statement → List ℕ → Type 0

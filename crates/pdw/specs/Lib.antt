@@ -3,12 +3,8 @@ pub mod Text
 pub mod Refusal
 pub mod RefusalLine
 pub mod Reading
-pub mod Whole
-pub mod Judge
-pub mod Judgement
-pub mod Plain
 pub mod Trace
 pub mod Output
-pub mod Perform
+pub mod Stops
 pub mod Run
 pub mod Status

@@ -1,26 +1,22 @@
 -- The lawful outputs of a script.
-use Rattle.std.specs.Prelude.{◌≡◌, ◌⊎◌, ℕ, ◌+◌, ◌≤◌, ◌<◌, List, [], ◌∷◌, ◌++◌, length, map, codes, Option, Some, Ok, Err}
-use Rattle.std.specs.List.Sorted.{IsPermutation}
-use Rattle.pdw_catalog.specs.declared.table.Table.{Table}
-use Rattle.pdw_catalog.specs.Table.{Row, most_rows}
-use Rattle.pdw_catalog.specs.Catalog.{table_named}
+use Rattle.std.specs.Prelude.{◌≡◌, ◌⊎◌, ⊤, ℕ, ◌+◌, ◌≤◌, ◌<◌, List, [], ◌∷◌, ◌++◌, length, codes, Option, Some, None}
+use Rattle.pdw_ast.specs.declared.statement.Statement.{Statement}
+use Rattle.pdw_engine.specs.Executes.{Gives as Answered, RefusesWork}
+use Rattle.pdw_engine.specs.Plain.{Plain, start}
+use Rattle.pdw_engine.specs.Prepared.{Prepares, RefusesFirst, wanted}
+use Rattle.pdw_engine.specs.declared.answer.Answer.{Answer}
+use Rattle.pdw_engine.specs.declared.refusal.Refusal.{Refusal}
+use Rattle.pdw_engine.specs.declared.session.TheConstants.{MOST_FILE_BYTES}
 use Rattle.pdw_outside.specs.Faults.{Rose}
 use Rattle.pdw_outside.specs.Whole.{IsContent}
-use Rattle.pdw_load.specs.Records.{records_of, faults_of, rows_of}
-use Rattle.pdw_load.specs.declared.load_error.LoadError.{LoadError}
-use Rattle.pdw_ast.specs.declared.statement.Statement.{Statement}
-use Rattle.pdw.specs.declared.task.Task.{Task}
-use Rattle.pdw.specs.declared.task.Task.TheVariants.{Create, Drop, Load, Select}
-use Rattle.pdw.specs.declared.refusal.Refusal.{Refusal}
-use Rattle.pdw.specs.declared.refusal.TheConstants.{MOST_FILE_BYTES, MOST_SCRIPT_BYTES}
+use Rattle.pdw_scope.specs.declared.judged.Judged.{Judged}
+use Rattle.pdw.specs.declared.refusal.TheConstants.{MOST_SCRIPT_BYTES}
 use Rattle.pdw.specs.declared.status.Status.{Status}
 use Rattle.pdw.specs.declared.status.Status.TheVariants as status
-use Rattle.pdw.specs.Judge.{judged}
-use Rattle.pdw.specs.Plain.{Plain, SamePlain, start, with_table, without_table, with_rows}
 use Rattle.pdw.specs.Reading.{IsScript, IsTextFault}
-use Rattle.pdw.specs.Refusal.{long_script_line, limit_line, fault_line}
+use Rattle.pdw.specs.Refusal.{long_script_line, limit_line}
 use Rattle.pdw.specs.RefusalLine.{refusal_line}
-use Rattle.pdw.specs.Text.{done_text, loaded_text, rows_text}
+use Rattle.pdw.specs.Text.{answer_text}
 use Rattle.pdw.specs.Trace.{Trace, cut_at, followed_by, nothing, prints}
 use Rattle.pdw.specs.Words.{AskRun, HaveNoForm}
 
@@ -30,74 +26,43 @@ Held = List ℕ → Option (List ℕ)
 
 -- ---- one statement
 
--- a file of this content is loaded into a table: it is within the limit, no record has a fault, and the table keeps its limit
-pub record LoadsContent (old : Plain) (name content : List ℕ) (trace : Trace) (new : Plain) : Type 0 where
-  pub table : Table
-  pub there : table_named name old.tables ≡ Some table
-  pub short : length content ≤ MOST_FILE_BYTES
-  pub sound : faults_of table (records_of content) ≡ []
-  pub room : length (old.rows name) + length (records_of content) ≤ most_rows table.placing
-  pub printed : trace ≡ prints (loaded_text (length (records_of content)))
-  pub gained : SamePlain (with_rows name (rows_of table (records_of content)) old) new
+-- the content of the file that is wanted, exactly where one is
+abbrev pub IsTold : Held → Option (List ℕ) → Option (List ℕ) → Type 0
+IsTold held None None = ⊤
+IsTold held (Some name) (Some content) = IsContent (held name) content
+IsTold held _ _ = ⊥
 
--- SELECT prints all rows of the table, in any order
-pub record Selects (old : Plain) (name : List ℕ) (trace : Trace) (new : Plain) : Type 0 where
-  pub table : Table
-  pub there : table_named name old.tables ≡ Some table
-  pub rows : List Row
-  pub answer : IsPermutation (old.rows name) rows
-  pub printed : trace ≡ prints (rows_text (map (λ column. column.name) table.columns) rows)
-  pub same : SamePlain old new
-
--- what was judged is done in a state, and leaves this trace and that state
-abbrev pub Does : Held → Plain → Task → Trace → Plain → Type 0
-Does held old (Create table) trace new = (trace ≡ prints done_text) × SamePlain (with_table table old) new
-Does held old (Drop name) trace new = (trace ≡ prints done_text) × SamePlain (without_table name old) new
-Does held old (Load name file) trace new = (content : List ℕ) × IsContent (held file) content × LoadsContent old name content trace new
-Does held old (Select name) trace new = Selects old name trace new
-
--- a statement in a state leaves this trace and that state: it is judged to be without fault, and done
+-- a statement in a state leaves this trace and that state: it answers, with the file that it wants, and its answer is printed
 pub record Gives (held : Held) (old : Plain) (statement : Statement) (trace : Trace) (new : Plain) : Type 0 where
-  pub task : Task
-  pub right : judged old.tables statement ≡ Ok task
-  pub does : Does held old task trace new
+  pub file : Option (List ℕ)
+  pub answer : Answer
+  pub answered : Answered old statement file answer new
+  pub told : IsTold held (wanted answered.work) file
+  pub printed : trace ≡ prints (answer_text answer)
 
--- why a file is not loaded: its length, or else its first faulty record, or else the limit of the table's rows
-abbrev pub LoadFault : ℕ → Plain → List ℕ → Table → List ℕ → List ℕ → Type 0
-LoadFault k old name table content line =
+-- why the content of a file is not used, by this line of statement k: it is too long, or what was judged can't be done with it
+abbrev pub FailsContent : ℕ → Plain → Judged → List ℕ → List ℕ → Type 0
+FailsContent k old work content line =
     ((MOST_FILE_BYTES < length content) × (line ≡ limit_line k (codes "file") MOST_FILE_BYTES))
-    ⊎ ((length content ≤ MOST_FILE_BYTES) × (fault : LoadError) × (rest : List LoadError)
-    × (faults_of table (records_of content) ≡ fault ∷ rest) × (line ≡ fault_line k fault))
-    ⊎ ((length content ≤ MOST_FILE_BYTES) × (faults_of table (records_of content) ≡ [])
-    × (most_rows table.placing < length (old.rows name) + length (records_of content)) × (line ≡ limit_line k (codes "rows") (most_rows table.placing)))
-
-pub record RefusesContent (k : ℕ) (old : Plain) (name content : List ℕ) (line : List ℕ) : Type 0 where
-  pub table : Table
-  pub there : table_named name old.tables ≡ Some table
-  pub fault : LoadFault k old name table content line
+    ⊎ ((length content ≤ MOST_FILE_BYTES) × (fault : Refusal) × RefusesWork old work (Some content) fault × (line ≡ refusal_line k fault))
 
 -- what was judged can't be done as statement k, by this line
-abbrev pub Fails : Held → ℕ → Plain → Task → List ℕ → Type 0
-Fails held k old (Create table) line = ⊥
-Fails held k old (Drop name) line = ⊥
-Fails held k old (Load name file) line = (content : List ℕ) × IsContent (held file) content × RefusesContent k old name content line
-Fails held k old (Select name) line = ⊥
+pub record Fails (held : Held) (k : ℕ) (old : Plain) (work : Judged) (line : List ℕ) : Type 0 where
+  pub file : List ℕ
+  pub wants : wanted work ≡ Some file
+  pub content : List ℕ
+  pub told : IsContent (held file) content
+  pub fault : FailsContent k old work content line
 
--- statement k is refused in a state, by this line: it is judged to have this fault, or fails when it is done
+-- statement k is refused in a state, by this line: its form is not executed or it is judged to have this fault, or it fails when it is done
 abbrev pub Refuses : Held → ℕ → Plain → Statement → List ℕ → Type 0
 Refuses held k old statement line =
-    ((fault : Refusal) × (judged old.tables statement ≡ Err fault) × (line ≡ refusal_line k fault))
-    ⊎ ((task : Task) × (judged old.tables statement ≡ Ok task) × Fails held k old task line)
-
-abbrev pub WantsFile : Task → List ℕ → Type 0
-WantsFile (Create table) file = ⊥
-WantsFile (Drop name) file = ⊥
-WantsFile (Load name wanted) file = wanted ≡ file
-WantsFile (Select name) file = ⊥
+    ((fault : Refusal) × RefusesFirst old.tables statement fault × (line ≡ refusal_line k fault))
+    ⊎ ((work : Judged) × Prepares old.tables statement work × Fails held k old work line)
 
 -- a statement in a state wants a file: it is judged to be without fault
 abbrev pub Wants : Plain → Statement → List ℕ → Type 0
-Wants old statement file = (task : Task) × (judged old.tables statement ≡ Ok task) × WantsFile task file
+Wants old statement file = (work : Judged) × Prepares old.tables statement work × (wanted work ≡ Some file)
 
 -- ---- how a script ends
 

@@ -6,7 +6,7 @@ use Rattle.pdw_outside.specs.Sink.{Adds}
 use Rattle.pdw.specs.declared.status.Status.{Status}
 use Rattle.pdw.specs.declared.status.Status.TheVariants as status
 use Rattle.pdw.specs.Output.{End, EndsIn, Gives, Held, Tells}
-use Rattle.pdw.specs.Plain.{Plain}
+use Rattle.pdw_engine.specs.Plain.{Plain}
 use Rattle.pdw.specs.Trace.{Trace}
 
 -- the line of a refusal was written, or cut where the sink failed

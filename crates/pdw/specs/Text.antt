@@ -4,6 +4,8 @@ use Rattle.std.specs.List.{flat_map, join_by}
 use Rattle.std.specs.Fmt.{decimal, signed_decimal}
 use Rattle.pdw_base.specs.declared.value.Value.{Value}
 use Rattle.pdw_base.specs.declared.value.Value.TheVariants.{Null, Int, Text, Wide}
+use Rattle.pdw_engine.specs.declared.answer.Answer.{Answer}
+use Rattle.pdw_engine.specs.declared.answer.Answer.TheVariants.{Done, Loaded, Rows}
 
 -- what a statement that only changes the tables prints
 abbrev pub done_text : List ℕ
@@ -37,3 +39,9 @@ count_text rows = codes "ROWS " ++ (decimal rows ++ codes "\n")
 
 abbrev pub rows_text : List (List ℕ) → List (List Value) → List ℕ
 rows_text names rows = header_text names ++ (flat_map row_text rows ++ count_text (length rows))
+
+-- what a statement prints that gave this answer
+abbrev pub answer_text : Answer → List ℕ
+answer_text Done = done_text
+answer_text (Loaded records) = loaded_text records
+answer_text (Rows table) = rows_text table.names table.rows

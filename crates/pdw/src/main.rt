@@ -1,7 +1,6 @@
 //! The appliance as a program: a script of statements in, rows out.
 #![tactic(auto)]
 
-mod judge;
 pub mod laws;
 mod perform;
 mod reading;
@@ -10,7 +9,6 @@ pub mod run;
 pub mod status;
 mod step;
 mod stop;
-mod task;
 #[cfg(test)]
 mod tests;
 mod text;

@@ -1,7 +1,9 @@
 //! The statements of a script, which is read whole before the first of them is executed.
 
-ghost use Rattle.std.specs.Prelude.{◌≡◌, ◌≤◌, Some, IfOk, IfErr, length};
+ghost use Rattle.std.specs.Prelude.{◌≡◌, ◌≤◌, true, Some, IfOk, IfErr, length};
+ghost use Rattle.std.specs.List.{list_all};
 ghost use Rattle.std.specs.String.{string_bytes};
+ghost use Rattle.pdw_bind.specs.Written.{statement_written};
 ghost use Rattle.pdw.specs.Reading.{HasFault, IsScript, script_line};
 
 use crate::refusal::{no_statements, no_tokens};
@@ -37,6 +39,7 @@ impl ScriptError {
 pub fn read_script(alloc: Global, script: &[u8]) -> Result<Items<Statement>, ScriptError>
     requires { length script.now ≤ 1048576 }
     ensures statements { IfOk result (λ statements. IsScript script.now statements) }
+    ensures written { IfOk result (λ statements. list_all statement_written statements ≡ true) }
     ensures fault { IfErr result (λ error. HasFault script.now error) }
 {
     let tokens = match lex(alloc, script) {

@@ -2,45 +2,20 @@
 
 ghost use Rattle.std.specs.Prelude.{◌≡◌, Some, IfOk};
 ghost use Rattle.std.specs.String.{string_bytes};
-ghost use Rattle.pdw.specs.Refusal.{fault_text, lex_line, limit_line, long_script_line, named_line, not_built_line, parse_line, place_line};
+ghost use Rattle.pdw.specs.Refusal.{fault_line, fault_text, judged_line, lex_line, limit_line, long_file_line, long_script_line, named_line, not_built_line, parse_line, place_line, setting_line, word_line};
+ghost use Rattle.pdw.specs.Refusal as lines;
+ghost use Rattle.pdw.specs.RefusalLine as spec;
 
-use pdw_base::{NoMemory, Str};
-use pdw_catalog::{MOST_COLUMNS, MOST_TABLES};
+use pdw_base::NoMemory;
+use pdw_engine::{MOST_FILE_BYTES, Refusal};
 use pdw_lex::LexError;
 use pdw_load::LoadError;
 use pdw_parse::ParseError;
+use pdw_scope::{JudgeFault, LimitName};
 use std::alloc::Global;
 
 /// The greatest length of a script, in bytes.
 pub const MOST_SCRIPT_BYTES: usize = 1_048_576;
-
-/// The greatest length of a file that a statement reads, in bytes.
-pub const MOST_FILE_BYTES: usize = 67_108_864;
-
-/// Why a statement is refused.
-#[derive(Debug, Drop)]
-pub enum Refusal {
-    /// A table that is to be made is there.
-    TableExists(Str),
-    /// A table is not there.
-    UnknownTable(Str),
-    /// An earlier column has this name.
-    DuplicateName(Str),
-    /// No column has this name.
-    UnknownColumn(Str),
-    /// The table would have too many columns.
-    Columns,
-    /// There would be too many tables.
-    Tables,
-    /// Statements of this form can't be executed yet.
-    NotBuilt,
-    /// A record of the file has a fault.
-    Load(LoadError),
-    /// The file is too long.
-    File,
-    /// The table would have more rows than this.
-    Rows { most: usize },
-}
 
 /// The line that refuses a script of too many bytes.
 pub fn long_script(alloc: Global) -> Result<String, NoMemory>
@@ -93,7 +68,7 @@ fn fault(alloc: Global, found: LoadError) -> Result<String, NoMemory>
     })
 }
 
-fn limit(alloc: Global, k: usize, name: &str, most: usize) -> Result<String, NoMemory>
+fn limit(alloc: Global, k: usize, name: &str, most: u64) -> Result<String, NoMemory>
     ensures { IfOk result (λ line. string_bytes line ≡ limit_line k name.now most) }
 {
     Ok(format!(in alloc; "REFUSED E16 STATEMENT {k} LIMIT {name} {most}\n")?)
@@ -105,33 +80,83 @@ fn named(alloc: Global, code: &str, k: usize, word: &str, name: &str) -> Result<
     Ok(format!(in alloc; "REFUSED {code} STATEMENT {k} {word} {name}\n")?)
 }
 
+fn worded(alloc: Global, code: &str, k: usize, word: &str) -> Result<String, NoMemory>
+    ensures { IfOk result (λ line. string_bytes line ≡ word_line code.now k word.now) }
+{
+    Ok(format!(in alloc; "REFUSED {code} STATEMENT {k} {word}\n")?)
+}
+
+fn setting(alloc: Global, k: usize, name: &str, amount: i64) -> Result<String, NoMemory>
+    ensures { IfOk result (λ line. string_bytes line ≡ setting_line k name.now amount) }
+{
+    Ok(format!(in alloc; "REFUSED E18 STATEMENT {k} BADSETTING {name} {amount}\n")?)
+}
+
 fn not_built(alloc: Global, k: usize) -> Result<String, NoMemory>
     ensures { IfOk result (λ line. string_bytes line ≡ not_built_line k) }
 {
     Ok(format!(in alloc; "REFUSED E19 STATEMENT {k} NOTBUILT\n")?)
 }
 
-impl Refusal {
-    ghost use Rattle.pdw.specs.RefusalLine.{refusal_line};
+fn record(alloc: Global, k: usize, found: LoadError) -> Result<String, NoMemory>
+    ensures { IfOk result (λ line. string_bytes line ≡ fault_line k found) }
+{
+    let text = fault(alloc, found)?;
+    Ok(format!(in alloc; "REFUSED E17 STATEMENT {k} {text}\n")?)
+}
 
-    /// The line that refuses statement k.
-    pub fn line(self, alloc: Global, k: usize) -> Result<String, NoMemory>
-        ensures { IfOk result (λ line. string_bytes line ≡ refusal_line k self) }
-    {
-        match self {
-            Refusal::TableExists(table) => named(alloc, "E8", k, "TABLEEXISTS", table.text()),
-            Refusal::UnknownTable(table) => named(alloc, "E9", k, "UNKNOWNTABLE", table.text()),
-            Refusal::DuplicateName(name) => named(alloc, "E10", k, "DUPLICATENAME", name.text()),
-            Refusal::UnknownColumn(name) => named(alloc, "E11", k, "UNKNOWNCOLUMN", name.text()),
-            Refusal::Columns => limit(alloc, k, "columns", MOST_COLUMNS),
-            Refusal::Tables => limit(alloc, k, "tables", MOST_TABLES),
-            Refusal::NotBuilt => not_built(alloc, k),
-            Refusal::Load(found) => {
-                let text = fault(alloc, found)?;
-                Ok(format!(in alloc; "REFUSED E17 STATEMENT {k} {text}\n")?)
-            }
-            Refusal::File => limit(alloc, k, "file", MOST_FILE_BYTES),
-            Refusal::Rows { most } => limit(alloc, k, "rows", most),
-        }
+/// The line that refuses statement k, whose file is too long.
+pub fn long_file(alloc: Global, k: usize) -> Result<String, NoMemory>
+    ensures { IfOk result (λ line. string_bytes line ≡ long_file_line k) }
+{
+    limit(alloc, k, "file", MOST_FILE_BYTES as u64)
+}
+
+fn limit_name(which: LimitName) -> &'static str
+    ensures { result.now ≡ lines.limit_name which }
+{
+    match which {
+        LimitName::Script => "script",
+        LimitName::File => "file",
+        LimitName::Tables => "tables",
+        LimitName::Columns => "columns",
+        LimitName::Rows => "rows",
+        LimitName::References => "references",
+        LimitName::Used => "used",
+        LimitName::Items => "items",
+        LimitName::Queries => "queries",
+    }
+}
+
+// The line of a fault of the judgement.
+fn judged(alloc: Global, k: usize, found: &JudgeFault) -> Result<String, NoMemory>
+    ensures { IfOk result (λ line. string_bytes line ≡ judged_line k found.now) }
+{
+    match found {
+        JudgeFault::TableExists(table) => named(alloc, "E8", k, "TABLEEXISTS", table.text()),
+        JudgeFault::UnknownTable(table) => named(alloc, "E9", k, "UNKNOWNTABLE", table.text()),
+        JudgeFault::DuplicateName(name) => named(alloc, "E10", k, "DUPLICATENAME", name.text()),
+        JudgeFault::UnknownColumn(name) => named(alloc, "E11", k, "UNKNOWNCOLUMN", name.text()),
+        JudgeFault::Ambiguous(name) => named(alloc, "E12", k, "AMBIGUOUS", name.text()),
+        JudgeFault::TypeMismatch => worded(alloc, "E13", k, "TYPEMISMATCH"),
+        JudgeFault::NotGrouped(name) => named(alloc, "E14", k, "NOTGROUPED", name.text()),
+        JudgeFault::AggregatePlace => worded(alloc, "E14", k, "AGGREGATEPLACE"),
+        JudgeFault::SubqueryPlace => worded(alloc, "E15", k, "SUBQUERYPLACE"),
+        JudgeFault::OuterReference(name) => named(alloc, "E15", k, "OUTERREFERENCE", name.text()),
+        JudgeFault::Limit { which, most } => limit(alloc, k, limit_name(*which), *most),
+        JudgeFault::BadSetting { name, amount } => setting(alloc, k, name.text(), *amount),
+        JudgeFault::Memory => Err(NoMemory),
+    }
+}
+
+/// The line that refuses statement k.
+pub fn refusal_line(alloc: Global, k: usize, refusal: Refusal) -> Result<String, NoMemory>
+    ensures { IfOk result (λ line. string_bytes line ≡ spec.refusal_line k refusal) }
+{
+    match refusal {
+        Refusal::Judge(found) => judged(alloc, k, &found),
+        Refusal::Load(found) => record(alloc, k, found),
+        Refusal::Rows { most } => limit(alloc, k, "rows", most),
+        Refusal::NotBuilt => not_built(alloc, k),
     }
 }

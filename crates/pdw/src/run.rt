@@ -1,10 +1,12 @@
 //! The whole run: the words, the script, its statements.
 
-ghost use Rattle.std.specs.Prelude.{◌≡◌, ◌≤◌, ◌⊎◌, length};
+ghost use Rattle.std.specs.Prelude.{◌≡◌, ◌≤◌, ◌⊎◌, true, length};
+ghost use Rattle.std.specs.List.{list_all};
+ghost use Rattle.pdw_bind.specs.Written.{statement_written};
 ghost use Rattle.pdw_outside.specs.Faults.{Rose};
 ghost use Rattle.pdw_outside.specs.Sink.{Adds};
 ghost use Rattle.pdw.specs.Output.{CountsWriting, Lawful, MeetsNoFault, Outputs, SameReading, ScriptWrites, Writes};
-ghost use Rattle.pdw.specs.Plain.{start};
+ghost use Rattle.pdw_engine.specs.Plain.{start};
 ghost use Rattle.pdw.specs.Run.{EndsBy};
 ghost use Rattle.pdw.specs.Trace.{Trace};
 ghost use Rattle.pdw.specs.Words.{HaveNoForm};
@@ -17,11 +19,11 @@ use crate::step::{refuse, run_statements};
 use crate::words;
 use pdw_ast::Statement;
 use pdw_base::{NodeCount, Str};
-use pdw_catalog::Appliance;
+use pdw_engine::Session;
 use pdw_outside::{Files, ReadStop, Sink, read_whole};
 use std::alloc::Global;
 
-// Executes statements over an appliance without tables.
+// Executes statements over a session without tables.
 fn run_anew<F: Files, S: Sink>(
     alloc: Global,
     nodes: NodeCount,
@@ -29,13 +31,14 @@ fn run_anew<F: Files, S: Sink>(
     files: &mut F,
     out: &mut S,
 ) -> Status
+    requires { list_all statement_written statements.now ≡ true }
     ensures lawful { EndsBy result (F.faults files.old) (F.faults files.new) (Writes (F.bytes files.old) 1 (start nodes) statements.now) (S.written out.old) (S.written out.new) }
     ensures reading { SameReading result (F.faults files.old) (F.faults files.new) }
     ensures writing { CountsWriting result (S.faults out.old) (S.faults out.new) }
     ensures bytes { F.bytes files.new ≡ F.bytes files.old }
 {
-    match Appliance::new(alloc, nodes) {
-        Ok(mut appliance) => run_statements(alloc, &mut appliance, statements, files, out),
+    match Session::new(alloc, nodes) {
+        Ok(mut session) => run_statements(alloc, &mut session, statements, files, out),
         Err(_) => Status::Memory,
     }
 }

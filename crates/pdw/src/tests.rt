@@ -3,6 +3,7 @@ mod judgement;
 mod limits;
 mod numbered;
 mod outside;
+mod program;
 mod queries;
 mod statements;
 mod texts;

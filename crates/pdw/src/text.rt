@@ -1,12 +1,12 @@
-//! The texts of rows.
+//! The texts of answers.
 
-ghost use Rattle.std.specs.Prelude.{◌≡◌, ◌++◌, List, length, map, codes, IfOk, OnOk};
+ghost use Rattle.std.specs.Prelude.{◌≡◌, ◌++◌, codes, IfOk, OnOk};
 ghost use Rattle.std.specs.List.{flat_map};
-ghost use Rattle.pdw.specs.Text.{count_text, done_text, header_text, loaded_text, quoted, row_text, value_text};
+ghost use Rattle.pdw.specs.Text.{answer_text, count_text, done_text, header_text, loaded_text, quoted, row_text, rows_text, value_text};
 
 use itoa::Buffer;
-use pdw_base::{NoMemory, Row, Value};
-use pdw_catalog::Column;
+use pdw_base::{NoMemory, Row, Str, Value};
+use pdw_engine::{Answer, Table1};
 use std::alloc::Global;
 
 // Puts a text in double quotes, with each of its own doubled.
@@ -68,15 +68,15 @@ pub fn push_rows(text: &mut Vec<u8>, rows: &[Row]) -> Result<(), NoMemory>
     Ok(())
 }
 
-/// What a statement prints that only changes the tables.
-pub fn done(alloc: Global) -> Result<Vec<u8>, NoMemory>
+// What a statement prints that only changes the tables.
+fn done(alloc: Global) -> Result<Vec<u8>, NoMemory>
     ensures { IfOk result (λ text. text.items ≡ done_text) }
 {
     Ok(Vec::from_slice(alloc, b"OK\n")?)
 }
 
-/// What LOAD prints for so many records.
-pub fn loaded(alloc: Global, records: usize) -> Result<Vec<u8>, NoMemory>
+// What LOAD prints for so many records.
+fn loaded(alloc: Global, records: u64) -> Result<Vec<u8>, NoMemory>
     ensures { IfOk result (λ text. text.items ≡ loaded_text records) }
 {
     let mut text = Vec::from_slice(alloc, b"LOADED ")?;
@@ -86,34 +86,56 @@ pub fn loaded(alloc: Global, records: usize) -> Result<Vec<u8>, NoMemory>
 }
 
 // Puts a comma before each name.
-fn push_names(text: &mut Vec<u8>, columns: &[Column]) -> Result<(), NoMemory>
-    ensures { OnOk result (text.new.items ≡ text.old.items ++ flat_map (λ name. codes "," ++ name) (map (λ column. column.name) columns.now)) }
+fn push_names(text: &mut Vec<u8>, names: &[Str]) -> Result<(), NoMemory>
+    ensures { OnOk result (text.new.items ≡ text.old.items ++ flat_map (λ name. codes "," ++ name) names.now) }
 {
-    for column in columns {
+    for name in names {
         text.push(b',')?;
-        text.extend_from_slice(column.name.bytes())?;
+        text.extend_from_slice(name.bytes())?;
     }
     Ok(())
 }
 
-/// Adds the line of the output names.
-pub fn push_header(text: &mut Vec<u8>, columns: &[Column]) -> Result<(), NoMemory>
-    ensures { OnOk result (text.new.items ≡ text.old.items ++ header_text (map (λ column. column.name) columns.now)) }
+// Adds the line of the output names.
+fn push_header(text: &mut Vec<u8>, names: &[Str]) -> Result<(), NoMemory>
+    ensures { OnOk result (text.new.items ≡ text.old.items ++ header_text names.now) }
 {
-    if let Some((first, rest)) = columns.split_first() {
-        text.extend_from_slice(first.name.bytes())?;
+    if let Some((first, rest)) = names.split_first() {
+        text.extend_from_slice(first.bytes())?;
         push_names(text, rest)?;
     }
     text.push(b'\n')?;
     Ok(())
 }
 
-/// Adds the line of the number of rows.
-pub fn push_count(text: &mut Vec<u8>, rows: usize) -> Result<(), NoMemory>
+// Adds the line of the number of rows.
+fn push_count(text: &mut Vec<u8>, rows: usize) -> Result<(), NoMemory>
     ensures { OnOk result (text.new.items ≡ text.old.items ++ count_text rows) }
 {
     text.extend_from_slice(b"ROWS ")?;
     text.extend_from_slice(Buffer::new().format(rows).as_bytes())?;
     text.push(b'\n')?;
     Ok(())
+}
+
+// What SELECT prints.
+fn rows(alloc: Global, table: &Table1) -> Result<Vec<u8>, NoMemory>
+    ensures { IfOk result (λ text. text.items ≡ rows_text table.now.names table.now.rows) }
+{
+    let mut text = Vec::new(alloc);
+    push_header(&mut text, table.names.as_slice())?;
+    push_rows(&mut text, table.rows.as_slice())?;
+    push_count(&mut text, table.rows.len())?;
+    Ok(text)
+}
+
+/// What a statement prints that gave this answer.
+pub fn answer(alloc: Global, answer: &Answer) -> Result<Vec<u8>, NoMemory>
+    ensures { IfOk result (λ text. text.items ≡ answer_text answer.now) }
+{
+    match answer {
+        Answer::Done => done(alloc),
+        Answer::Loaded(records) => loaded(alloc, *records),
+        Answer::Rows(table) => rows(alloc, table),
+    }
 }

@@ -5,6 +5,7 @@ use super::queries::tables_of;
 use crate::reading::read_script;
 use pdw_ast::Statement;
 use pdw_catalog::Appliance;
+use pdw_engine::Session;
 use pdw_scope::{JudgeFault, Judged, judge};
 use std::alloc::{AllocError, Global};
 use std::process::Abort;
@@ -209,8 +210,8 @@ fn numbered_parts(alloc: Global, before: &str, after: &str, times: usize) -> Res
     Ok(text)
 }
 
-// An appliance of so many tables.
-fn many_tables(alloc: Global, tables: usize) -> Result<Appliance, Fail> {
+// A session of so many tables.
+fn many_tables(alloc: Global, tables: usize) -> Result<Session, Fail> {
     let end = " (a INT) WITH (DISTRIBUTION = REPLICATE);";
     let script = numbered_parts(alloc, "CREATE TABLE t", end, tables)?;
     tables_of(alloc, script.as_str())
@@ -240,7 +241,8 @@ fn tables_keep_their_limits(rt: HostRuntime) -> Result<(), Fail> {
         (64, 31, "LIMIT tables 64"),
         (64, 32, "LIMIT columns 32"),
     ] {
-        let found = created(alloc, &many_tables(alloc, tables)?, others)?;
+        let session = many_tables(alloc, tables)?;
+        let found = created(alloc, session.appliance(), others)?;
         assert_eq!(rt; found.as_str(), wanted, "{tables} {others}");
     }
     Ok(())
@@ -249,11 +251,12 @@ fn tables_keep_their_limits(rt: HostRuntime) -> Result<(), Fail> {
 #[test]
 fn the_first_of_two_faults_counts(rt: HostRuntime) -> Result<(), Fail> {
     let alloc = rt.alloc();
-    let appliance = tables_of(alloc, TABLES)?;
+    let session = tables_of(alloc, TABLES)?;
+    let appliance = session.appliance();
     let head = "SELECT c FROM t, r WHERE ";
-    first_counts(&rt, alloc, &appliance, FAULTY_CONJUNCTS, head, " AND ", "")?;
+    first_counts(&rt, alloc, appliance, FAULTY_CONJUNCTS, head, " AND ", "")?;
     let tail = " FROM t, r GROUP BY c";
-    first_counts(&rt, alloc, &appliance, FAULTY_ITEMS, "SELECT ", ", ", tail)
+    first_counts(&rt, alloc, appliance, FAULTY_ITEMS, "SELECT ", ", ", tail)
 }
 
 // What a statement does, or its first fault.
@@ -315,7 +318,8 @@ fn selected(
 #[test]
 fn items_keep_their_limits(rt: HostRuntime) -> Result<(), Fail> {
     let alloc = rt.alloc();
-    let appliance = tables_of(alloc, TABLES)?;
+    let session = tables_of(alloc, TABLES)?;
+    let appliance = session.appliance();
     for (computed, bare, wanted) in [
         (127, 1, "UNKNOWNCOLUMN z"),
         (128, 0, "LIMIT used 128"),
@@ -323,7 +327,7 @@ fn items_keep_their_limits(rt: HostRuntime) -> Result<(), Fail> {
         (1, 127, "UNKNOWNCOLUMN z"),
         (1, 128, "LIMIT items 128"),
     ] {
-        let found = selected(alloc, &appliance, computed, bare)?;
+        let found = selected(alloc, appliance, computed, bare)?;
         assert_eq!(rt; found.as_str(), wanted, "{computed} {bare}");
     }
     Ok(())
@@ -362,9 +366,10 @@ fn nested_selected(
 #[test]
 fn queries_keep_their_limit(rt: HostRuntime) -> Result<(), Fail> {
     let alloc = rt.alloc();
-    let appliance = tables_of(alloc, TABLES)?;
+    let session = tables_of(alloc, TABLES)?;
+    let appliance = session.appliance();
     for (levels, wanted) in [(21, "UNKNOWNCOLUMN z"), (22, "LIMIT queries 64")] {
-        let found = nested_selected(alloc, &appliance, levels)?;
+        let found = nested_selected(alloc, appliance, levels)?;
         assert_eq!(rt; found.as_str(), wanted, "{levels}");
     }
     Ok(())
@@ -373,11 +378,12 @@ fn queries_keep_their_limit(rt: HostRuntime) -> Result<(), Fail> {
 #[test]
 fn statements_have_their_faults_and_forms(rt: HostRuntime) -> Result<(), Fail> {
     let alloc = rt.alloc();
-    let appliance = tables_of(alloc, TABLES)?;
+    let session = tables_of(alloc, TABLES)?;
+    let appliance = session.appliance();
     for line in FAULTS.lines().chain(FORMS.lines()) {
         let (statement, wanted) = line.split_once(" => ").ok_or("an arrow")?;
         let script = format!(in alloc; "{statement};")?;
-        let found = judged(alloc, &appliance, script.as_str())?;
+        let found = judged(alloc, appliance, script.as_str())?;
         assert_eq!(rt; found.as_str(), wanted, "{statement}");
     }
     Ok(())

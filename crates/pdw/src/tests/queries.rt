@@ -1,6 +1,8 @@
 //! SELECTs and the rows that they mean.
 
-ghost use Rattle.pdw.specs.Perform.{HaveOwnNames};
+ghost use Rattle.std.specs.Prelude.{◌≡◌, true};
+ghost use Rattle.std.specs.List.{list_all};
+ghost use Rattle.pdw_bind.specs.Written.{statement_written};
 
 use super::text_of;
 use crate::reading::read_script;
@@ -8,16 +10,17 @@ use crate::status::Status;
 use crate::step::run_statements;
 use crate::text::push_rows;
 use pdw_ast::Statement;
-use pdw_base::NodeCount;
+use pdw_base::{NodeCount, Str};
 use pdw_catalog::Appliance;
+use pdw_engine::Session;
 use pdw_meaning::plain_answer;
 use pdw_outside::{HonestFiles, HonestSink};
 use std::alloc::Global;
 use std::str;
 use std::test::Fail;
 
-// Tables and the records that are loaded into them.
-const TABLES: &str = "\
+/// Tables and the records that are loaded into them.
+pub const TABLES: &str = "\
 CREATE TABLE e (k INT, v INT) WITH (DISTRIBUTION = HASH(k));
 CREATE TABLE r (a INT, b TEXT) WITH (DISTRIBUTION = REPLICATE); LOAD r FROM 'r';
 CREATE TABLE l (a INT) WITH (DISTRIBUTION = HASH(a)); LOAD l FROM 'l';
@@ -61,8 +64,8 @@ days 1,1;2,1;32,2;
 promo 10;11;11;
 ";
 
-// A SELECT on each line, and its rows in the order of their texts.
-const ROWS: &str = "\
+/// A SELECT on each line, and its rows in the order of their texts.
+pub const ROWS: &str = "\
 SELECT COUNT(*) FROM e => 0
 SELECT COUNT(k), SUM(v), MIN(v), MAX(v) FROM e => 0,NULL,NULL,NULL
 SELECT k, COUNT(*) FROM e GROUP BY k => none
@@ -126,9 +129,12 @@ SELECT COUNT(*), SUM(d.s) FROM (SELECT x, SUM(y) AS s FROM c GROUP BY x) AS d =>
 SELECT region, month, SUM(qty) AS total, COUNT(*) AS n FROM sales JOIN stores ON store = store_id JOIN items ON item = item_id JOIN days ON day = day_id WHERE qty > 1 AND EXISTS (SELECT * FROM promo WHERE promo.item = item_id) GROUP BY region, month HAVING SUM(qty) > 2 ORDER BY total DESC, region => \"north\",1,15,3 / \"south\",1,4,1
 ";
 
-// The files, each under its name.
-fn files(alloc: Global) -> Result<HonestFiles, Fail> {
+/// The files, each under its name, and one more.
+pub fn files(alloc: Global, more: Option<(Str, Vec<u8>)>) -> Result<HonestFiles, Fail> {
     let mut files = Vec::new(alloc);
+    if let Some(file) = more {
+        files.push(file)?;
+    }
     for line in FILES.lines() {
         let (name, records) = line.split_once(" ").ok_or("a name")?;
         let mut bytes = Vec::new(alloc);
@@ -140,37 +146,39 @@ fn files(alloc: Global) -> Result<HonestFiles, Fail> {
     Ok(HonestFiles::new(files))
 }
 
-// How a run of statements over an appliance without tables ends.
+// How a run of statements ends.
 fn status_after(
     alloc: Global,
-    appliance: &mut Appliance,
+    session: &mut Session,
     statements: &[Statement],
 ) -> Result<Status, Fail>
-    requires { HaveOwnNames appliance.old.tables }
+    requires { list_all statement_written statements.now ≡ true }
 {
-    let mut files = files(alloc)?;
+    let mut files = files(alloc, None)?;
     let mut out = HonestSink::new(alloc, 0)?;
-    Ok(run_statements(alloc, appliance, statements, &mut files, &mut out))
+    Ok(run_statements(alloc, session, statements, &mut files, &mut out))
 }
 
-// The same of three nodes, and what they hold after the run.
-fn appliance_after(alloc: Global, statements: &[Statement]) -> Result<(Status, Appliance), Fail> {
+// The same of three nodes without tables, and the session after the run.
+fn session_after(alloc: Global, statements: &[Statement]) -> Result<(Status, Session), Fail>
+    requires { list_all statement_written statements.now ≡ true }
+{
     let nodes = NodeCount::new(3).ok_or("three")?;
-    let mut appliance = Appliance::new(alloc, nodes)?;
-    let status = status_after(alloc, &mut appliance, statements)?;
-    Ok((status, appliance))
+    let mut session = Session::new(alloc, nodes)?;
+    let status = status_after(alloc, &mut session, statements)?;
+    Ok((status, session))
 }
 
-/// An appliance of three nodes, after a script that makes its tables.
-pub fn tables_of(alloc: Global, script: &str) -> Result<Appliance, Fail> {
+/// A session of three nodes, after a script that makes its tables.
+pub fn tables_of(alloc: Global, script: &str) -> Result<Session, Fail> {
     if script.len() > 1_048_576 {
         return Err("too long")?;
     }
     let Ok(statements) = read_script(alloc, script.as_bytes()) else {
         return Err("no statements")?;
     };
-    match appliance_after(alloc, statements.as_slice())? {
-        (Status::Done, appliance) => Ok(appliance),
+    match session_after(alloc, statements.as_slice())? {
+        (Status::Done, session) => Ok(session),
         _ => Err("not done")?,
     }
 }
@@ -192,8 +200,8 @@ fn rows_of(alloc: Global, appliance: &Appliance, script: &str) -> Result<String,
     shown(alloc, str::from_utf8(text.as_slice())?)
 }
 
-// Lines in the order of their texts.
-fn shown(alloc: Global, text: &str) -> Result<String, Fail> {
+/// Lines in the order of their texts.
+pub fn shown(alloc: Global, text: &str) -> Result<String, Fail> {
     let mut lines = Vec::new(alloc);
     for line in text.lines() {
         lines.push(line)?;
@@ -215,11 +223,12 @@ fn shown(alloc: Global, text: &str) -> Result<String, Fail> {
 #[test]
 fn queries_mean_their_rows(rt: HostRuntime) -> Result<(), Fail> {
     let alloc = rt.alloc();
-    let appliance = tables_of(alloc, TABLES)?;
+    let session = tables_of(alloc, TABLES)?;
+    let appliance = session.appliance();
     for line in ROWS.lines() {
         let (query, wanted) = line.split_once(" => ").ok_or("an arrow")?;
         let script = format!(in alloc; "{query};")?;
-        let found = rows_of(alloc, &appliance, script.as_str())?;
+        let found = rows_of(alloc, appliance, script.as_str())?;
         assert_eq!(rt; found.as_str(), wanted, "{query}");
     }
     Ok(())

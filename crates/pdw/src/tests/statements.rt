@@ -107,17 +107,6 @@ fn assert_not_built(rt: &impl Abort, alloc: Global, form: &str) -> Result<(), Fa
 #[test]
 fn other_forms_are_not_built(rt: HostRuntime) -> Result<(), Fail> {
     for form in [
-        "SELECT a FROM t",
-        "SELECT DISTINCT * FROM t",
-        "SELECT * FROM t AS t",
-        "SELECT * FROM (t)",
-        "SELECT * FROM t, r",
-        "SELECT * FROM t CROSS JOIN r",
-        "SELECT * FROM t WHERE a = 1",
-        "SELECT * FROM t GROUP BY a",
-        "SELECT * FROM t HAVING a = 1",
-        "SELECT * FROM t ORDER BY a",
-        "SELECT a FROM nosuch",
         "UPDATE STATISTICS nosuch",
         "UPDATE STATISTICS t WITH ROWS 5",
         "SET BUDGET 0",

@@ -4,9 +4,9 @@ use super::numbered::{aggregates, column, conds, keys, scalar, table};
 use super::queries::tables_of;
 use crate::reading::read_script;
 use pdw_algebra::Tree;
-use pdw_base::ColId;
 use pdw_bind::bind;
 use pdw_catalog::Appliance;
+use pdw_base::ColId;
 use pdw_expr::{Agg, Cond, JoinKind, Scalar};
 use pdw_scope::{Judged, judge};
 use std::alloc::{AllocError, Global};
@@ -124,7 +124,10 @@ fn tree(out: &mut String, shown: &Tree) -> Result<(), AllocError> {
             filters(out, conds.as_slice())?;
             over(out, child.get())
         }
-        Tree::Project { items: made, child } => {
+        Tree::Project {
+            items: made,
+            child,
+        } => {
             items(out, made.as_slice())?;
             over(out, child.get())
         }
@@ -176,10 +179,11 @@ fn tree_of(alloc: Global, appliance: &Appliance, query: &str) -> Result<String, 
 #[test]
 fn queries_have_their_trees(rt: HostRuntime) -> Result<(), Fail> {
     let alloc = rt.alloc();
-    let appliance = tables_of(alloc, TABLES)?;
+    let session = tables_of(alloc, TABLES)?;
+    let appliance = session.appliance();
     for line in TREES.lines() {
         let (query, wanted) = line.split_once(" => ").ok_or("no tree")?;
-        assert_eq!(rt; tree_of(alloc, &appliance, query)?.as_str(), wanted);
+        assert_eq!(rt; tree_of(alloc, appliance, query)?.as_str(), wanted);
     }
     Ok(())
 }

@@ -1,9 +1,7 @@
-use Rattle.std.proofs.Common.{refl, subst, sym}
-use Rattle.pdw_catalog.specs.Appliance.{Contents}
+use Rattle.std.proofs.Common.{refl}
 use Rattle.pdw_outside.proofs.SinkLemmas.{adds_none}
 use Rattle.pdw.specs.Output.{Stopped}
-use Rattle.pdw.specs.Perform.{HaveOwnNames}
-use Rattle.pdw.specs.Plain.{start}
+use Rattle.pdw_engine.specs.Plain.{start}
 use Rattle.pdw.proofs.RunLemmas.{Writes-stopped}
 use Rattle.pdw.specs.Trace.{nothing}
 use Rattle.pdw.proofs.run.run_anew.Goals as goal
@@ -11,6 +9,3 @@ use Rattle.pdw.proofs.run.run_anew.Goals as goal
 pub returns-in-Err-clause-lawful : goal.returns-in-Err-clause-lawful
 returns-in-Err-clause-lawful g c =
     (Stopped, nothing, refl, Writes-stopped (g.F.Files.bytes c.args.files.now) 1 (start c.args.nodes) c.args.statements.now, adds_none (g.S.Sink.written c.args.out.now))
-
-pub run_statements-requires : goal.run_statements-requires
-run_statements-requires g c = subst (λ (appliance : Contents). HaveOwnNames appliance.tables) (sym c.in-Ok.ensures) tt
