@@ -5,7 +5,7 @@ use super::{assert_outcome, text_of, words_of};
 use crate::run::run;
 use crate::status::Status;
 use pdw_outside::HonestSink;
-use std::alloc::Global;
+use std::alloc::{AllocError, Global};
 use std::process::Abort;
 use std::str;
 use std::test::Fail;
@@ -59,16 +59,23 @@ fn printed(alloc: Global, nodes: &str, script: Vec<u8>) -> Result<(Status, Vec<u
     Ok((status, Vec::from_slice(alloc, out.written())?))
 }
 
+fn push_line(text: &mut String, line: &str) -> Result<(), AllocError> {
+    text.push_str(line)?;
+    text.push_str("\n")
+}
+
 // The lines from a place up to that of the number of rows, and the place after it.
 fn rows_from(alloc: Global, lines: &[&str], place: usize) -> Result<(String, usize), Fail> {
     let mut rows = String::new(alloc);
-    let mut at = place;
-    while at < lines.len() && !lines[at].starts_with("ROWS ") {
-        rows.push_str(lines[at])?;
-        rows.push_str("\n")?;
-        at += 1;
+    for (at, line) in lines.iter().enumerate() {
+        if at >= place {
+            if line.starts_with("ROWS ") {
+                return Ok((rows, at.saturating_add(1)));
+            }
+            push_line(&mut rows, line)?;
+        }
     }
-    Ok((rows, at.saturating_add(1)))
+    Ok((rows, lines.len()))
 }
 
 // Lines in their order.
@@ -131,12 +138,7 @@ fn other_case(
 }
 
 // The same of what the program prints.
-fn other_rows(
-    alloc: Global,
-    nodes: &str,
-    cases: &str,
-    is_ordered: bool,
-) -> Result<String, Fail> {
+fn other_rows(alloc: Global, nodes: &str, cases: &str, is_ordered: bool) -> Result<String, Fail> {
     let (status, output) = printed(alloc, nodes, script_of(alloc, cases)?)?;
     if status != Status::Done {
         return Ok(String::from_str(alloc, "not done")?);
@@ -168,17 +170,20 @@ fn the_program_prints_the_rows(rt: HostRuntime) -> Result<(), Fail> {
 }
 
 // The second statement of a script is refused so.
-fn assert_refused(
-    rt: &impl Abort,
-    alloc: Global,
-    query: &str,
-    wanted: &str,
-) -> Result<(), Fail> {
+fn assert_refused(rt: &impl Abort, alloc: Global, query: &str, wanted: &str) -> Result<(), Fail> {
     let table = "CREATE TABLE t (a INT, b TEXT) WITH (DISTRIBUTION = HASH(a));";
     let script = format!(in alloc; "{table} {query};")?;
     let line = format!(in alloc; "OK\nREFUSED {wanted}\n")?;
     let words = &["run", "3", "s"];
-    assert_outcome(rt, alloc, words, script.as_bytes(), b"", Status::Refused, line.as_bytes())
+    assert_outcome(
+        rt,
+        alloc,
+        words,
+        script.as_bytes(),
+        b"",
+        Status::Refused,
+        line.as_bytes(),
+    )
 }
 
 #[test]

@@ -4,9 +4,9 @@ use super::numbered::{aggregates, column, conds, keys, scalar, table};
 use super::queries::tables_of;
 use crate::reading::read_script;
 use pdw_algebra::Tree;
+use pdw_base::ColId;
 use pdw_bind::bind;
 use pdw_catalog::Appliance;
-use pdw_base::ColId;
 use pdw_expr::{Agg, Cond, JoinKind, Scalar};
 use pdw_scope::{Judged, judge};
 use std::alloc::{AllocError, Global};
@@ -103,11 +103,10 @@ fn over(out: &mut String, child: &Tree) -> Result<(), AllocError> {
 
 #[cycle(trees)]
 fn leaves(out: &mut String, shown: &[Tree]) -> Result<(), AllocError> {
-    let mut mark = "block(";
-    for leaf in shown {
-        out.push_str(mark)?;
+    out.push_str("block(")?;
+    for (place, leaf) in shown.iter().enumerate() {
+        out.push_str(if place == 0 { "" } else { ", " })?;
         tree(out, leaf)?;
-        mark = ", ";
     }
     Ok(())
 }
@@ -124,10 +123,7 @@ fn tree(out: &mut String, shown: &Tree) -> Result<(), AllocError> {
             filters(out, conds.as_slice())?;
             over(out, child.get())
         }
-        Tree::Project {
-            items: made,
-            child,
-        } => {
+        Tree::Project { items: made, child } => {
             items(out, made.as_slice())?;
             over(out, child.get())
         }
