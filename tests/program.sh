@@ -55,6 +55,20 @@ in_folder() {
 seq 1 900000 >many.csv
 sed 's/t.csv/many.csv/; s/, b TEXT//' s.sql >many.sql
 
+printf '1,"x,y"\r\n2,""\r\n3,\\N\r\n' >m.csv
+printf '4,u\n5,v\n6,w,z\n' >wide.csv
+cat >field_count.sql <<'SCRIPT'
+CREATE TABLE m (a INT, b TEXT) WITH (DISTRIBUTION = HASH(a));
+LOAD m FROM 'm.csv';
+SELECT a, b FROM m ORDER BY a;
+LOAD m FROM 'wide.csv';
+SCRIPT
+cat >dropped.sql <<'SCRIPT'
+CREATE TABLE e (k INT, v INT) WITH (DISTRIBUTION = HASH(k));
+DROP TABLE e;
+SELECT k FROM e;
+SCRIPT
+
 "$top/pdw" run >/dev/null 2>&1 # builds it, where that is still to be done
 expect done 0 "$(printf 'OK\nLOADED 2\na,b\nNULL,"y"\n4,"x"\nROWS 2')" "$top/pdw" run 3 s.sql
 expect 'one node' 0 "$(printf 'OK\nLOADED 2\na,b\n4,"x"\nNULL,"y"\nROWS 2')" "$top/pdw" run 1 s.sql
@@ -62,6 +76,8 @@ expect 'an empty script' 0 '' "$top/pdw" run 3 empty.sql
 expect refused 1 'REFUSED E6 SYNTAX AT 13' "$top/pdw" run 3 cut_off.sql
 expect 'not built' 1 "$(printf 'OK\nLOADED 2\na,b\n4,"x"\nNULL,"y"\nROWS 2\nREFUSED E19 STATEMENT 4 NOTBUILT')" "$top/pdw" run 1 not_built.sql
 expect 'joins, groups and subqueries' 0 "$(printf 'OK\nOK\nOK\nOK\nOK\nLOADED 7\nLOADED 3\nLOADED 3\nLOADED 3\nLOADED 3\nregion,month,total,n\n"north",1,15,3\n"south",1,4,1\nROWS 2\nkind\n"tea"\nROWS 1')" in_folder "$top/examples/star" "$top/pdw" run 4 s.sql
+expect 'a later file with a field too many' 1 "$(printf 'OK\nLOADED 3\na,b\n1,"x,y"\n2,""\n3,NULL\nROWS 3\nREFUSED E17 STATEMENT 4 FIELDCOUNT 3')" "$top/pdw" run 4 field_count.sql
+expect 'a dropped table' 1 "$(printf 'OK\nOK\nREFUSED E9 STATEMENT 3 UNKNOWNTABLE e')" "$top/pdw" run 4 dropped.sql
 expect 'no words' 2 '' "$top/pdw"
 expect 'no nodes' 2 '' "$top/pdw" run 0 s.sql
 expect 'too many nodes' 2 '' "$top/pdw" run 17 s.sql
