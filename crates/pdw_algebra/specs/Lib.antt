@@ -3,3 +3,4 @@ pub mod Schema
 pub mod Types
 pub mod Shape
 pub mod WellFormed
+pub mod Within

@@ -1,8 +1,5 @@
-pub mod WithinLaws
 pub mod OnceLaws
 pub mod SubqueryRows
-pub mod Used
-pub mod Products
 pub mod TreeFromLaws
 pub mod TreeLaws
 pub mod TreeMeaning

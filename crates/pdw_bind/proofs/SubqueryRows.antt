@@ -14,7 +14,8 @@ use Rattle.pdw_base.specs.declared.truth.Truth.{Truth}
 use Rattle.pdw_base.specs.declared.truth.Truth.TheVariants.{True, False, Unknown}
 use Rattle.pdw_base.specs.declared.value.Value.{Value}
 use Rattle.pdw_bind.proofs.OnceLaws.{items_once}
-use Rattle.pdw_bind.proofs.WithinLaws.{AllWithin, IsWithin, UsesOnly, meets-append, union-swapped, value-left, value-right}
+use Rattle.pdw_algebra.proofs.WithinLaws.{UsesOnly, meets-append, union-swapped, value-left, value-right}
+use Rattle.pdw_algebra.specs.Within.{AllWithin, IsWithin}
 use Rattle.pdw_bind.specs.Bind.{Bound, each_item_once, equality, first_of, in_condition, item_scalar, subquery_kind}
 use Rattle.pdw_expr.specs.Columns.{scalar_columns, scalar_columns_step}
 use Rattle.pdw_expr.specs.Comparison.{comparison}

@@ -29,9 +29,9 @@ use Rattle.pdw_expr.specs.declared.agg.JoinKind.{JoinKind}
 use Rattle.pdw_expr.specs.declared.agg.JoinKind.TheVariants as kind
 use Rattle.pdw_expr.specs.declared.cond.Cond.{Cond}
 use Rattle.pdw_meaning.specs.Numbered.{joined_rows}
-use Rattle.pdw_bind.proofs.Products.{all-filter, block-filter, filter-all, filtered-append, inner-crossed, products-append, products-cons, products-one, within-crossed, within-full_joined, within-left_joined}
-use Rattle.pdw_bind.proofs.Used.{CondsUse, conds-use, uses-after, uses-append, uses-more}
-use Rattle.pdw_bind.proofs.WithinLaws.{AllWithin, IsWithin}
+use Rattle.pdw_algebra.proofs.Products.{all-filter, block-filter, filter-all, filtered-append, inner-crossed, products-append, products-cons, products-one, within-crossed, within-full_joined, within-left_joined}
+use Rattle.pdw_algebra.proofs.Used.{CondsUse, conds-use, uses-after, uses-append, uses-more}
+use Rattle.pdw_algebra.specs.Within.{AllWithin, IsWithin}
 
 -- both sides of a join are sound, have no number in common, and its ON is typed
 sides : (left right : ElementShape) (on : List Cond) → sides_sound left right on ≡ true

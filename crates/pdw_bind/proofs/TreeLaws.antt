@@ -32,11 +32,12 @@ use Rattle.pdw_scope.specs.declared.judged.JFrom.TheOpen.{JudgedQuery-F}
 use Rattle.pdw_scope.specs.declared.judged.JGroup.{JGroup}
 use Rattle.pdw_scope.specs.declared.judged.JItem.{JItem}
 use Rattle.pdw_bind.proofs.OnceLaws.{distinct_once, items_once, keys_once}
-use Rattle.pdw_bind.proofs.Products.{all-filter, filter-all, filter-filter}
+use Rattle.pdw_algebra.proofs.Products.{all-filter, filter-all, filter-filter}
 use Rattle.pdw_bind.proofs.SubqueryRows.{SidesWithin, item_columns, subquery_meaning, subquery_rows, subquery_side}
 use Rattle.pdw_bind.proofs.TreeFromLaws.{Elements, block-rows, rows-join}
-use Rattle.pdw_bind.proofs.Used.{has_number-left, kind-there, same-first, same-second, scalar-within}
-use Rattle.pdw_bind.proofs.WithinLaws.{AllWithin, IsWithin, UsesOnly}
+use Rattle.pdw_algebra.proofs.Used.{has_number-left, kind-there, same-first, same-second, scalar-within}
+use Rattle.pdw_algebra.proofs.WithinLaws.{UsesOnly}
+use Rattle.pdw_algebra.specs.Within.{AllWithin, IsWithin}
 
 -- ---- output columns
 

@@ -24,8 +24,9 @@ use Rattle.pdw_expr.specs.declared.scalar.Scalar.{Scalar}
 use Rattle.pdw_expr.specs.declared.scalar.Scalar.TheOpen.{Scalar-F}
 use Rattle.pdw_expr.specs.declared.scalar.Scalar.TheViews.{roll-Scalar}
 use Rattle.pdw_expr.specs.declared.scalar.Scalar.TheFolds.{fold-roll-Scalar, ind-Scalar, map-Scalar}
-use Rattle.pdw_meaning.proofs.WalkLaws.{all-append, all-map}
-use Rattle.pdw_bind.proofs.WithinLaws.{IsWithin, UsesOnly, is_met, meets-all, truth-left, truth-right}
+use Rattle.pdw_algebra.proofs.AllLaws.{all-append, all-map}
+use Rattle.pdw_algebra.proofs.WithinLaws.{UsesOnly, is_met, meets-all, truth-left, truth-right}
+use Rattle.pdw_algebra.specs.Within.{IsWithin}
 
 -- conditions that use some columns alone
 abbrev pub CondsUse : Columns → List Cond → Type 0

@@ -4,6 +4,7 @@ use Rattle.std.proofs.lemmas.List.Elements.{All-nil, All-cons}
 use Rattle.std.proofs.lemmas.List.Folds.{list_all-append}
 use Rattle.std.specs.List.{AllByRecursion, list_all}
 use Rattle.pdw_algebra.specs.Shape.{are_apart, has_number}
+use Rattle.pdw_algebra.specs.Within.{IsWithin}
 use Rattle.pdw_base.specs.Schema.{Columns, Env}
 use Rattle.pdw_base.specs.declared.schema.ColId.{ColId}
 use Rattle.pdw_base.specs.declared.truth.Truth.{Truth}
@@ -19,14 +20,7 @@ use Rattle.pdw_expr.specs.Rows.{meets}
 use Rattle.pdw_expr.specs.Scalar.{value_of}
 use Rattle.pdw_expr.specs.declared.cond.Cond.{Cond}
 use Rattle.pdw_expr.specs.declared.scalar.Scalar.{Scalar}
-use Rattle.pdw_meaning.proofs.Distinct.{numbers-same}
-
--- a row has NULL outside these columns
-pub record IsWithin (columns : Columns) (row : Env) : Type 0 where
-  pub elsewhere : (c : ColId) → has_number c columns ≡ false → row c ≡ Null
-
-abbrev pub AllWithin : Columns → List Env → Type 0
-AllWithin columns rows = AllByRecursion (IsWithin columns) rows
+use Rattle.pdw_algebra.proofs.AllLaws.{numbers-same}
 
 -- these are among the columns
 abbrev pub UsesOnly : Columns → List ColId → Type 0

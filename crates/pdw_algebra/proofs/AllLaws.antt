@@ -1,0 +1,15 @@
+-- What holds of each item of a list, and columns of one number.
+use Rattle.std.proofs.Common.{◌≡◌, ◌==◌, true, List, [], ◌∷◌, ◌++◌, ap, arith, tests}
+use Rattle.std.specs.List.{AllByRecursion}
+use Rattle.pdw_base.specs.declared.schema.ColId.{ColId}
+
+pub all-map : {X : Type 0} (P Q : X → Type 0) → ((x : X) → P x → Q x) → (xs : List X) → AllByRecursion P xs → AllByRecursion Q xs
+all-map P Q f [] all = tt
+all-map P Q f (x ∷ xs) all = (f x all.0, all-map P Q f xs all.1)
+
+pub all-append : {X : Type 0} (P : X → Type 0) (xs ys : List X) → AllByRecursion P xs → AllByRecursion P ys → AllByRecursion P (xs ++ ys)
+all-append P [] ys first second = second
+all-append P (x ∷ xs) ys first second = (first.0, all-append P xs ys first.1 second)
+
+pub numbers-same : (a c : ColId) → (a.0 == c.0) ≡ true → a ≡ c
+numbers-same a c e = let n : a.0 ≡ c.0 = grind (arith, tests) in ap (λ n. record { 0 = n }) n
