@@ -1,6 +1,7 @@
 ghost use Rattle.std.specs.Prelude.{◌≡◌, ◌<◌, ◌≤◌, SomeIff};
 ghost use Rattle.pdw_base.specs.Hash.{hash_bytes, node_for};
 
+use crate::limits::MOST_NODES;
 use crate::{Str, Value};
 use std::marker::Model;
 
@@ -27,7 +28,7 @@ impl NodeCount {
     pub fn new(n: u32) -> Option<NodeCount>
         ensures { SomeIff result ((1 ≤ n) × (n ≤ 16)) n }
     {
-        if n >= 1 && n <= 16 {
+        if n >= 1 && n <= MOST_NODES {
             Some(NodeCount { count: n })
         } else {
             None

@@ -41,6 +41,15 @@ impl Str {
         }
     }
 
+    /// The text of a text slice.
+    pub fn from_text(alloc: Global, text: &str) -> Result<Str, NoMemory>
+        ensures { IfOk result (λ owned. owned ≡ text.now) }
+    {
+        Ok(Str {
+            held: String::from_str(alloc, text)?,
+        })
+    }
+
     pub fn bytes(&self) -> &[u8]
         ensures { result.now ≡ self.now }
     {

@@ -58,3 +58,17 @@ impl Value {
         }
     }
 }
+
+impl ValueRef<'_> {
+    /// The same value, with a text of its own.
+    pub fn to_value(self, alloc: Global) -> Result<Value, NoMemory>
+        ensures { IfOk result (λ copy. copy ≡ owned self.entry) }
+    {
+        match self {
+            ValueRef::Null => Ok(Value::Null),
+            ValueRef::Int(number) => Ok(Value::Int(number)),
+            ValueRef::Text(text) => Ok(Value::Text(text.try_copy(alloc)?)),
+            ValueRef::Wide(number) => Ok(Value::Wide(number)),
+        }
+    }
+}

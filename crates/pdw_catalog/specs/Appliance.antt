@@ -9,7 +9,7 @@ use Rattle.pdw_catalog.specs.declared.table.Column.{Column}
 use Rattle.pdw_catalog.specs.declared.table.Table.{Table}
 use Rattle.pdw_catalog.specs.declared.table.Placing.{Placing}
 use Rattle.pdw_catalog.specs.declared.table.Placing.TheVariants.{Hash, Replicate}
-use Rattle.pdw_catalog.specs.declared.table.TheConstants.{MOST_TABLES, MOST_COLUMNS}
+use Rattle.pdw_base.specs.declared.limits.TheConstants.{MOST_TABLES, MOST_COLUMNS}
 use Rattle.pdw_catalog.specs.Table.{Row, FitsTable, IsPlaced, most_rows, value_at}
 use Rattle.pdw_catalog.specs.Catalog.{Tables, table_named}
 

@@ -6,7 +6,7 @@ use Rattle.pdw_base.specs.Value.{IsOfKind}
 use Rattle.pdw_catalog.specs.declared.table.Column.{Column}
 use Rattle.pdw_catalog.specs.declared.table.Placing.{Placing}
 use Rattle.pdw_catalog.specs.declared.table.Placing.TheVariants.{Hash, Replicate}
-use Rattle.pdw_catalog.specs.declared.table.TheConstants.{MOST_HASH_ROWS, MOST_REPLICATED_ROWS, MOST_TEXT_BYTES}
+use Rattle.pdw_base.specs.declared.limits.TheConstants.{MOST_HASH_ROWS, MOST_REPLICATED_ROWS, MOST_TEXT_BYTES}
 
 abbrev pub Row : Type 0
 Row = List Value

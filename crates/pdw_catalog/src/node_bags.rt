@@ -5,8 +5,8 @@ ghost use Rattle.pdw_catalog.specs.Table.{most_rows, value_at};
 ghost use Rattle.pdw_catalog.specs.Appliance.{at_node, whole_rows};
 ghost use Rattle.pdw_catalog.specs.NodeBags.{Adds, Copied, CopiedToFirst, Extends, Placed, Shortened};
 
-use crate::table::{MOST_HASH_ROWS, Placing};
-use pdw_base::{Bag, NoMemory, NodeCount, Row, Value, node_of};
+use crate::table::Placing;
+use pdw_base::{Bag, MOST_HASH_ROWS, NoMemory, NodeCount, Row, Value, node_of};
 use std::alloc::Global;
 use std::marker::Model;
 

@@ -1,23 +1,25 @@
 ghost use Rattle.std.specs.Prelude.{◌≡◌, IfOk};
 
-use pdw_base::{Kind, NoMemory, Str};
+use pdw_base as limits;
+use pdw_base::{Kind, MOST_HASH_ROWS, MOST_REPLICATED_ROWS, NoMemory, Str};
 use sqlite_items::Items;
 use std::alloc::Global;
 
 /// The greatest number of tables.
-pub const MOST_TABLES: usize = 64;
+pub const MOST_TABLES: usize = limits::MOST_TABLES;
 
 /// The greatest number of columns of a table.
-pub const MOST_COLUMNS: usize = 32;
-
-/// The greatest number of rows of a hash-distributed table.
-pub const MOST_HASH_ROWS: usize = 1_000_000;
-
-/// The greatest number of rows of a replicated table.
-pub const MOST_REPLICATED_ROWS: usize = 100_000;
+pub const MOST_COLUMNS: usize = limits::MOST_COLUMNS;
 
 /// The greatest length of a text in a table, in bytes.
-pub const MOST_TEXT_BYTES: usize = 1_000;
+pub const MOST_TEXT_BYTES: usize = limits::MOST_TEXT_BYTES;
+
+/// The limits of tables and of the texts in them.
+pub fn limits_of_tables_are_these()
+    ensures tables { MOST_TABLES ≡ 64 }
+    ensures columns { MOST_COLUMNS ≡ 32 }
+    ensures text { MOST_TEXT_BYTES ≡ 1000 }
+{}
 
 /// A column of a table.
 #[derive(Debug, Drop)]

@@ -13,7 +13,7 @@ use Rattle.pdw_lex.specs.Keyword.{keyword_of}
 use Rattle.pdw_lex.specs.Piece.{AreDigits, IsPiece, IsWord, doubled, quoted}
 use Rattle.pdw_lex.specs.Sign.{SignEnds, is_sign_byte, sign_text}
 use Rattle.pdw_lex.specs.declared.keyword.Keyword.{Keyword}
-use Rattle.pdw_lex.specs.declared.lex_error.TheConstants.{MOST_TEXT_BYTES}
+use Rattle.pdw_base.specs.declared.limits.TheConstants.{MOST_TEXT_BYTES}
 use Rattle.pdw_lex.specs.declared.lex_error.LexError.{LexError}
 use Rattle.pdw_lex.specs.declared.lex_error.LexError.TheVariants.{NotUtf8, BadChar, OpenText, BigNumber, LongText, Memory}
 use Rattle.pdw_lex.specs.declared.sign.Sign.{Sign}

@@ -7,7 +7,7 @@ use Rattle.pdw_lex.specs.Bytes.{begins_with, is_letter, is_quote, is_separator}
 use Rattle.pdw_lex.specs.Sign.{is_sign_byte}
 use Rattle.pdw_lex.specs.Piece.{AreDigits, doubled, quoted}
 use Rattle.pdw_lex.specs.Lexes.{ArePieces, Piece, joined}
-use Rattle.pdw_lex.specs.declared.lex_error.TheConstants.{MOST_TEXT_BYTES}
+use Rattle.pdw_base.specs.declared.limits.TheConstants.{MOST_TEXT_BYTES}
 use Rattle.pdw_lex.specs.declared.lex_error.LexError.{LexError}
 use Rattle.pdw_lex.specs.declared.lex_error.LexError.TheVariants.{NotUtf8, BadChar, OpenText, BigNumber, LongText, Memory}
 

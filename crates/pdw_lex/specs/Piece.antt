@@ -7,7 +7,7 @@ use Rattle.std.specs.Str.Parse.{digits_value}
 use Rattle.pdw_lex.specs.Bytes.{begins_with, is_in_line, is_letter, is_quote, is_separator, is_word_byte}
 use Rattle.pdw_lex.specs.Keyword.{keyword_of}
 use Rattle.pdw_lex.specs.Sign.{SignEnds, sign_text}
-use Rattle.pdw_lex.specs.declared.lex_error.TheConstants.{MOST_TEXT_BYTES}
+use Rattle.pdw_base.specs.declared.limits.TheConstants.{MOST_TEXT_BYTES}
 use Rattle.pdw_lex.specs.declared.token.Lexeme.{Lexeme}
 use Rattle.pdw_lex.specs.declared.token.Lexeme.TheVariants as lexeme
 

@@ -1,9 +1,6 @@
-use pdw_base::NoMemory;
+use pdw_base::{MOST_TEXT_BYTES, NoMemory};
 use std::alloc::{AllocError, AllocFailed};
 use thiserror::Error;
-
-/// The greatest length of a text, in bytes.
-pub(crate) const MOST_TEXT_BYTES: usize = 1_000;
 
 /// Why a script has no tokens. `at` is the place of the fault, in bytes from the start of the script.
 #[derive(Clone, Copy, Debug, PartialEq, Eq, Error)]

@@ -4,10 +4,10 @@ ghost use Rattle.pdw_lex.specs.Bytes.{begins_with, is_quote as quote};
 ghost use Rattle.pdw_lex.specs.Fault.{FaultsAt};
 ghost use Rattle.pdw_lex.specs.Piece.{BeginsPiece, quoted as quoted_text};
 
-use crate::lex_error::MOST_TEXT_BYTES;
 use crate::piece::Piece;
 use crate::text::text_from;
 use crate::{LexError, Lexeme};
+use pdw_base::MOST_TEXT_BYTES;
 use std::alloc::Global;
 
 // The bytes of the text up to the quote that ends it, and the length of the text with its quotes.

@@ -10,7 +10,7 @@ use Rattle.pdw_base.specs.declared.value.Value.{Value}
 use Rattle.pdw_base.specs.declared.value.Value.TheVariants.{Null, Text}
 use Rattle.pdw_catalog.specs.Table.{AllowsNull, FitsColumn, FitsTable, IsShortText}
 use Rattle.pdw_catalog.specs.declared.table.Column.{Column}
-use Rattle.pdw_catalog.specs.declared.table.TheConstants.{MOST_TEXT_BYTES}
+use Rattle.pdw_base.specs.declared.limits.TheConstants.{MOST_TEXT_BYTES}
 use Rattle.pdw_load.specs.Field.{field_faults, int_or_null, is_null, number_of, plain_faults, plain_value, value_of}
 use Rattle.pdw_load.specs.Records.{Fields, faults_along, faults_from, row_of}
 use Rattle.pdw_load.specs.declared.field.Place.{Place}

@@ -7,7 +7,7 @@ use Rattle.pdw_base.specs.declared.value.Kind.TheVariants as kind
 use Rattle.pdw_base.specs.declared.value.Value.{Value}
 use Rattle.pdw_base.specs.declared.value.Value.TheVariants.{Null, Int, Text}
 use Rattle.pdw_catalog.specs.declared.table.Column.{Column}
-use Rattle.pdw_catalog.specs.declared.table.TheConstants.{MOST_TEXT_BYTES}
+use Rattle.pdw_base.specs.declared.limits.TheConstants.{MOST_TEXT_BYTES}
 use Rattle.pdw_load.specs.declared.field.Place.{Place}
 use Rattle.pdw_load.specs.declared.load_error.LoadError.{LoadError}
 use Rattle.pdw_load.specs.declared.load_error.LoadError.TheVariants.{BadInt, LongText, NullField, NotUtf8}

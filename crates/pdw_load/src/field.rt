@@ -3,8 +3,8 @@ ghost use Rattle.pdw_load.specs.Field.{field_faults, number_of, text_faults, val
 ghost use Rattle.pdw_load.specs.LoadError.{IsFirstFault};
 
 use crate::LoadError;
-use pdw_base::{Kind, Str, Value};
-use pdw_catalog::{Column, MOST_TEXT_BYTES};
+use pdw_base::{Kind, MOST_TEXT_BYTES, Str, Value};
+use pdw_catalog::Column;
 use std::alloc::Global;
 use std::str;
 

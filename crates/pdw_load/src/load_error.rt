@@ -1,5 +1,4 @@
-use pdw_base::NoMemory;
-use pdw_catalog::MOST_TEXT_BYTES;
+use pdw_base::{MOST_TEXT_BYTES, NoMemory};
 use std::alloc::{AllocError, AllocFailed};
 use thiserror::Error;
 
