@@ -10,7 +10,7 @@ use Rattle.pdw_catalog.specs.declared.table.Table.{Table}
 use Rattle.pdw_catalog.specs.declared.table.Placing.{Placing}
 use Rattle.pdw_catalog.specs.declared.table.Placing.TheVariants.{Hash, Replicate}
 use Rattle.pdw_base.specs.declared.limits.TheConstants.{MOST_TABLES, MOST_COLUMNS}
-use Rattle.pdw_catalog.specs.Table.{Row, FitsTable, IsPlaced, most_rows, value_at}
+use Rattle.pdw_catalog.specs.Table.{Row, FitsTable, IsPlaced, IsStoredKind, most_rows, value_at}
 use Rattle.pdw_catalog.specs.Catalog.{Tables, table_named}
 
 -- the rows of one table at each compute node
@@ -37,11 +37,12 @@ abbrev pub StandsWhere : ℕ → Placing → Bags → Type 0
 StandsWhere n (Hash column) bags = (node : ℕ) → node < n → AllByRecursion (λ row. node_for n (value_at column row) ≡ node) (at_node node bags)
 StandsWhere n Replicate bags = (node : ℕ) → node < n → SameBag (at_node node bags) (at_node 0 bags)
 
--- a table that an appliance may have: 1 to 32 columns of different names, and a hash column that it has
+-- a table that an appliance may have: 1 to 32 columns of different names, each INT or TEXT, and a hash column that it has
 pub record IsTable (table : Table) : Type 0 where
   pub some : 1 ≤ length table.columns
   pub most : length table.columns ≤ MOST_COLUMNS
   pub different : AllPairs (λ (c d : Column). bytes_eq c.name d.name ≡ false) table.columns
+  pub kinds : AllByRecursion (λ (c : Column). IsStoredKind c.kind) table.columns
   pub placed : IsPlaced table.placing (length table.columns)
 
 -- the rows of a table stand where its placing says, fit its columns and keep its limit

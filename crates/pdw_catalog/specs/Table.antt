@@ -1,5 +1,7 @@
 -- What a table's rows are.
 use Rattle.std.specs.Prelude.{◌≡◌, ⊤, ℕ, ◌≤◌, ◌<◌, Bool, true, List, [], ◌∷◌, length, slice_index_or}
+use Rattle.pdw_base.specs.declared.value.Kind.{Kind}
+use Rattle.pdw_base.specs.declared.value.Kind.TheVariants as kind
 use Rattle.pdw_base.specs.declared.value.Value.{Value}
 use Rattle.pdw_base.specs.declared.value.Value.TheVariants.{Null, Int, Text, Wide}
 use Rattle.pdw_base.specs.Value.{IsOfKind}
@@ -37,6 +39,12 @@ FitsTable [] [] = ⊤
 FitsTable [] (value ∷ row) = ⊥
 FitsTable (column ∷ columns) [] = ⊥
 FitsTable (column ∷ columns) (value ∷ row) = FitsColumn column value × FitsTable columns row
+
+-- a column of a table is of kind INT or TEXT: wide numbers stand between a partial and a final aggregate alone
+abbrev pub IsStoredKind : Kind → Type 0
+IsStoredKind kind.Int = ⊤
+IsStoredKind kind.Text = ⊤
+IsStoredKind kind.Wide = ⊥
 
 -- the value in a column of a positional row, counted from 0
 abbrev pub value_at : ℕ → Row → Value
