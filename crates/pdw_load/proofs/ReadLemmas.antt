@@ -1,8 +1,7 @@
 -- Single reads of a text, one after the other, give its records.
-use Rattle.std.proofs.Common.{◌≡◌, ◌==◌, ◌&&◌, ◌<◌, ◌≤◌, ◌+◌, ◌-◌, ◌∷◌, [], ℕ, zero, suc, Bool, true, false, List, length, Option, Some, None, Result, Ok, Err, if◌then◌else◌, refl, sym, ap, ◌∙◌, arith, add-one}
+use Rattle.std.proofs.Common.{◌≡◌, ◌==◌, ◌&&◌, ◌<◌, ◌≤◌, ◌+◌, ◌-◌, ◌∷◌, [], ℕ, zero, suc, Bool, true, false, List, length, Option, Some, None, if◌then◌else◌, refl, ap, ◌∙◌, arith, add-one}
 use Rattle.std.proofs.lemmas.Bool.{false≢true}
 use Rattle.std.specs.Option.{unwrap_or}
-use Rattle.std.specs.Result.{IsErrAnd, MatchResult, result_unwrap_or}
 use Rattle.csv.specs.Machine.{Read, after_end, carriage_return, ends_at_end, ends_with, field_after, fields_after, in_field, is_byte, is_end, line_feed, next_record, start_field, start_record, step}
 use Rattle.csv.specs.Reading.{ReadRecord, Reached, default_config, records_from, records_next, source_of}
 use Rattle.csv.specs.declared.parser.Action.{Action}
@@ -148,8 +147,3 @@ read-none rem a b fields y config source read = left-none default_config a.state
 abbrev pub size_left : Option (List ℕ) → ℕ
 size_left None = 0
 size_left (Some bytes) = length bytes
-
--- a result that kept its value while its error was changed had that value
-pub read-found : {T E D : Type 0} (r : Result T E) (m : Result T D) (x : T) (P : E → D → Type 0) → MatchResult r (λ y. m ≡ Ok y) (λ e. IsErrAnd m (P e)) → m ≡ Ok x → r ≡ Ok x
-read-found (Ok y) m x P h e = ap Ok (ap (λ o. result_unwrap_or o y) (sym h ∙ e))
-read-found (Err d) m x P h e = absurd (rw e at h)

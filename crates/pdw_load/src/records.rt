@@ -1,16 +1,42 @@
-ghost use Rattle.std.specs.Prelude.{◌≡◌, [], ◌≤◌, length, IfOk, IfErr};
+ghost use Rattle.std.specs.Prelude.{◌≡◌, [], ◌≤◌, length, true, IfOk, IfErr};
 ghost use Rattle.std.specs.List.{AllByRecursion};
+ghost use Rattle.csv.specs.Reading.{ReadRecord, Ready, is_flexible, reader_trim, took_first};
 ghost use Rattle.csv.specs.Records.{fields_of};
+ghost use Rattle.csv.specs.declared.reader.Trim.TheVariants as trim;
 ghost use Rattle.pdw_catalog.specs.Table.{FitsTable};
 ghost use Rattle.pdw_load.specs.LoadError.{IsFirstFault};
 ghost use Rattle.pdw_load.specs.Records.{faults_of, record_faults, records_of, row_of, rows_of};
 
 use crate::LoadError;
 use crate::field::{Place, read_field};
-use csv::{ByteRecord, ReaderBuilder};
-use pdw_base::Row;
-use pdw_catalog::{Column, MOST_COLUMNS, Table};
+use csv::{ByteRecord, ErrorKind, Reader, ReaderBuilder};
+use pdw_base::{MOST_COLUMNS, Row};
+use pdw_catalog::{Column, Table};
 use std::alloc::Global;
+
+// Reads the next record, of any number of fields. False says that there is none.
+fn read_next(reader: &mut Reader<&[u8]>, fields: &mut ByteRecord) -> Result<bool, LoadError>
+    requires ready { Ready reader.old }
+    requires plain { reader_trim reader.old ≡ trim.None }
+    requires flexible { is_flexible reader.old ≡ true }
+    ensures read { IfOk result (λ found. ReadRecord (λ s. Some s.now) reader.old reader.new found (fields_of fields.new)) }
+    ensures ready { IfOk result (λ found. took_first reader.new ≡ true) }
+    ensures flexible { IfOk result (λ found. is_flexible reader.new ≡ true) }
+    ensures fault { IfErr result (λ e. e ≡ LoadError.Memory) }
+{
+    let error = match reader.read_byte_record(fields) {
+        Ok(found) => return Ok(found),
+        Err(error) => error,
+    };
+    match error.kind() {
+        // Bytes in memory are read without failure, of which the contract of a reader says nothing.
+        ErrorKind::Io(_) | ErrorKind::OutOfMemory => Err(LoadError::Memory),
+        ErrorKind::UnequalLengths { .. }
+        | ErrorKind::Utf8 { .. }
+        | ErrorKind::Serialize(_)
+        | ErrorKind::Deserialize { .. } => unreachable!(),
+    }
+}
 
 // The row of the record of this number, or its first fault.
 fn read_record(
@@ -55,11 +81,7 @@ pub fn read_table(alloc: Global, bytes: &[u8], t: &Table) -> Result<Vec<Row>, Lo
         .from_reader(alloc, bytes);
     let mut fields = ByteRecord::new(alloc);
     let mut rows = Vec::new(alloc);
-    // From bytes in memory, with records of any length, a read fails for want of memory alone.
-    while reader
-        .read_byte_record(&mut fields)
-        .map_err(|_| LoadError::Memory)?
-    {
+    while read_next(&mut reader, &mut fields)? {
         let number = rows.len() as u64 + 1;
         rows.push(read_record(alloc, t.columns.as_slice(), &fields, number)?)?;
     }
