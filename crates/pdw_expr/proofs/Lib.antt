@@ -3,3 +3,4 @@ pub mod MatchLaws
 pub mod RowLemmas
 pub mod ColumnLaws
 pub mod EnvLaws
+pub mod PartLemmas

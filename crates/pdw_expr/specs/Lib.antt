@@ -10,4 +10,5 @@ pub mod Columns
 pub mod Aggregate
 pub mod Join
 pub mod Parts
+pub mod Rising
 pub mod Rows
