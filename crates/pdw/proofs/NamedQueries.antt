@@ -4,12 +4,12 @@ use Rattle.std.specs.Bool.{⊤}
 use Rattle.std.specs.List.{AllByRecursion, flat_map}
 use Rattle.std.specs.Prelude.{codes}
 use Rattle.std.specs.Str.{bytes_eq}
-use Rattle.pdw_ast.specs.declared.expr.SqlExpr.{SqlExpr}
-use Rattle.pdw_ast.specs.declared.query.Item.TheVariants as item
-use Rattle.pdw_ast.specs.declared.query.Item.{Item}
-use Rattle.pdw_ast.specs.declared.query.Items.TheVariants.{Star, List as Listed}
-use Rattle.pdw_ast.specs.declared.query.Items.{Items}
-use Rattle.pdw_ast.specs.declared.query.JoinWord.{JoinWord}
+use Rattle.pdw_syntax.specs.declared.expr.SqlExpr.{SqlExpr}
+use Rattle.pdw_syntax.specs.declared.query.Item.TheVariants as item
+use Rattle.pdw_syntax.specs.declared.query.Item.{Item}
+use Rattle.pdw_syntax.specs.declared.query.Items.TheVariants.{Star, List as Listed}
+use Rattle.pdw_syntax.specs.declared.query.Items.{Items}
+use Rattle.pdw_syntax.specs.declared.query.JoinWord.{JoinWord}
 use Rattle.pdw_catalog.specs.Catalog.{Tables}
 use Rattle.pdw_catalog.specs.declared.table.Column.{Column as TableColumn}
 use Rattle.pdw_catalog.specs.declared.table.Table.{Table}

@@ -3,22 +3,22 @@ use Rattle.std.proofs.Common.{◌≡◌, ◌≢◌, ℕ, ℤ, pos, negsuc, ◌-�
 use Rattle.std.specs.Bool.{⊤}
 use Rattle.std.specs.Fmt.{signed_decimal}
 use Rattle.std.specs.List.{AllByRecursion, list_any}
-use Rattle.pdw_ast.specs.declared.expr.ColRef.{ColRef}
-use Rattle.pdw_ast.specs.declared.query.JoinPart.{JoinPart, roll-JoinPart}
-use Rattle.pdw_ast.specs.declared.query.OrderKey.{OrderKey}
-use Rattle.pdw_ast.specs.declared.query.OrderName.TheVariants.{Name, Position}
-use Rattle.pdw_ast.specs.declared.query.OrderName.{OrderName}
-use Rattle.pdw_ast.specs.declared.query.Primary.TheFolds.{fold-roll-JoinPart, fold-roll-Primary, fold-roll-Query, fold-roll-SqlCond, fold-roll-TableRef, ind-Query, map-JoinPart, map-Primary, map-Query, map-SqlCond, map-TableRef}
-use Rattle.pdw_ast.specs.declared.query.Primary.TheOpen.{JoinPart-F, Primary-F, Query-F, SqlCond-F, TableRef-F}
-use Rattle.pdw_ast.specs.declared.query.Primary.TheViews.{roll-Primary, roll-SqlCond}
-use Rattle.pdw_ast.specs.declared.query.Primary.{Primary}
-use Rattle.pdw_ast.specs.declared.query.Query.{Query, roll-Query}
-use Rattle.pdw_ast.specs.declared.query.Select.{Select}
-use Rattle.pdw_ast.specs.declared.query.SqlCond.{SqlCond}
-use Rattle.pdw_ast.specs.declared.query.TableRef.{TableRef, roll-TableRef}
-use Rattle.pdw_ast.specs.declared.statement.CostPart.{CostPart}
-use Rattle.pdw_ast.specs.declared.statement.Statement.TheVariants as s
-use Rattle.pdw_ast.specs.declared.statement.Statement.{Statement}
+use Rattle.pdw_syntax.specs.declared.expr.ColRef.{ColRef}
+use Rattle.pdw_syntax.specs.declared.query.JoinPart.{JoinPart, roll-JoinPart}
+use Rattle.pdw_syntax.specs.declared.query.OrderKey.{OrderKey}
+use Rattle.pdw_syntax.specs.declared.query.OrderName.TheVariants.{Name, Position}
+use Rattle.pdw_syntax.specs.declared.query.OrderName.{OrderName}
+use Rattle.pdw_syntax.specs.declared.query.Primary.TheFolds.{fold-roll-JoinPart, fold-roll-Primary, fold-roll-Query, fold-roll-SqlCond, fold-roll-TableRef, ind-Query, map-JoinPart, map-Primary, map-Query, map-SqlCond, map-TableRef}
+use Rattle.pdw_syntax.specs.declared.query.Primary.TheOpen.{JoinPart-F, Primary-F, Query-F, SqlCond-F, TableRef-F}
+use Rattle.pdw_syntax.specs.declared.query.Primary.TheViews.{roll-Primary, roll-SqlCond}
+use Rattle.pdw_syntax.specs.declared.query.Primary.{Primary}
+use Rattle.pdw_syntax.specs.declared.query.Query.{Query, roll-Query}
+use Rattle.pdw_syntax.specs.declared.query.Select.{Select}
+use Rattle.pdw_syntax.specs.declared.query.SqlCond.{SqlCond}
+use Rattle.pdw_syntax.specs.declared.query.TableRef.{TableRef, roll-TableRef}
+use Rattle.pdw_syntax.specs.declared.statement.CostPart.{CostPart}
+use Rattle.pdw_syntax.specs.declared.statement.Statement.TheVariants as s
+use Rattle.pdw_syntax.specs.declared.statement.Statement.{Statement}
 use Rattle.pdw_catalog.specs.Catalog.{Tables, table_named}
 use Rattle.pdw_catalog.specs.declared.table.Column.{Column}
 use Rattle.pdw_catalog.specs.declared.table.Placing.TheVariants.{Hash}

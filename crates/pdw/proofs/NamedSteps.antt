@@ -2,11 +2,11 @@
 use Rattle.std.proofs.Common.{ℕ, ◌+◌, ◌==◌, Bool, true, false, List, [], ◌∷◌, ◌++◌, length, map, position, Option, Some, None, if◌then◌else◌, sym, subst}
 use Rattle.std.specs.Bool.{⊤}
 use Rattle.std.specs.List.{AllByRecursion}
-use Rattle.pdw_ast.specs.declared.expr.ColRef.{ColRef}
-use Rattle.pdw_ast.specs.declared.expr.SqlExpr.{SqlExpr}
-use Rattle.pdw_ast.specs.declared.expr.SqlExpr.TheFolds.{fold-roll-SqlExpr, ind-SqlExpr, map-SqlExpr}
-use Rattle.pdw_ast.specs.declared.expr.SqlExpr.TheOpen.{SqlExpr-F}
-use Rattle.pdw_ast.specs.declared.expr.SqlExpr.TheViews.{roll-SqlExpr}
+use Rattle.pdw_syntax.specs.declared.expr.ColRef.{ColRef}
+use Rattle.pdw_syntax.specs.declared.expr.SqlExpr.{SqlExpr}
+use Rattle.pdw_syntax.specs.declared.expr.SqlExpr.TheFolds.{fold-roll-SqlExpr, ind-SqlExpr, map-SqlExpr}
+use Rattle.pdw_syntax.specs.declared.expr.SqlExpr.TheOpen.{SqlExpr-F}
+use Rattle.pdw_syntax.specs.declared.expr.SqlExpr.TheViews.{roll-SqlExpr}
 use Rattle.pdw_base.specs.declared.value.Kind.{Kind}
 use Rattle.pdw_expr.specs.declared.agg.Agg.{Agg}
 use Rattle.pdw_expr.specs.declared.agg.AggKind.{AggKind}

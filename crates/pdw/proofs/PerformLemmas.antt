@@ -1,7 +1,7 @@
 -- What a statement does in the session, as the script tells it.
 use Rattle.std.proofs.Common.{◌≡◌, ℕ, List, Option, Some, Result, Ok, Err, IfErr, IfOk, refl, subst, inl, inr}
 use Rattle.std.specs.Result.{IsErrAnd, MatchResult}
-use Rattle.pdw_ast.specs.declared.statement.Statement.{Statement}
+use Rattle.pdw_syntax.specs.declared.statement.Statement.{Statement}
 use Rattle.pdw_engine.specs.Executes.{Gives as Answered, IsGiven, StopsWork}
 use Rattle.pdw_engine.specs.Plain.{Plain}
 use Rattle.pdw_engine.specs.Prepared.{Prepares, StopsFirst, wanted}

@@ -1,7 +1,7 @@
 -- A script says at most one thing.
 use Rattle.std.proofs.Common.{◌≡◌, ℕ, List, length, Some, ap, sym, ◌∙◌, subst}
 use Rattle.std.proofs.lemmas.Option.{none-some}
-use Rattle.pdw_ast.specs.declared.statement.Statement.{Statement}
+use Rattle.pdw_syntax.specs.declared.statement.Statement.{Statement}
 use Rattle.pdw_lex.specs.declared.lex_error.LexError.{LexError}
 use Rattle.pdw_lex.specs.declared.lex_error.LexError.TheVariants as lex
 use Rattle.pdw_lex.specs.declared.token.Token.{Token}

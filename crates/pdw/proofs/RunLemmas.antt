@@ -6,8 +6,8 @@ use Rattle.pdw_base.proofs.Steps.{drop-one_more}
 use Rattle.pdw_outside.proofs.SinkLemmas.{adds_none}
 use Rattle.pdw_outside.specs.Sink.{Adds}
 use Rattle.pdw_outside.specs.Whole.{IsContent}
-use Rattle.pdw_ast.specs.declared.statement.Statement.{Statement}
-use Rattle.pdw_bind.specs.Written.{statement_written}
+use Rattle.pdw_syntax.specs.declared.statement.Statement.{Statement}
+use Rattle.pdw_syntax.specs.Written.{statement_written}
 use Rattle.pdw.specs.Output.{End, Cut, Refused, Stopped, EndsIn, EndsLine, Gives, Held, Refuses, Writes}
 use Rattle.pdw_engine.specs.Plain.{Plain}
 use Rattle.pdw.specs.Trace.{Trace, cut_at, followed_by, nothing, prints}

@@ -2,9 +2,9 @@
 use Rattle.std.proofs.Common.{◌≡◌, ◌⊎◌, ℕ, ◌+◌, ◌≤◌, Bool, true, false, List, [], ◌∷◌, ◌++◌, length, take, drop, codes, refl, sym, ap, ◌∙◌, subst, inl, inr, arith, append_assoc, Option, None, Some, IsSome, Result, Ok, Err}
 use Rattle.std.proofs.lemmas.List.{take-append-drop}
 use native.Mathlib.Decide.{dec_le}
-use Rattle.pdw_ast.specs.declared.query.Select.{Select}
-use Rattle.pdw_ast.specs.declared.statement.Statement.{Statement}
-use Rattle.pdw_ast.specs.declared.statement.Statement.TheVariants as s
+use Rattle.pdw_syntax.specs.declared.query.Select.{Select}
+use Rattle.pdw_syntax.specs.declared.statement.Statement.{Statement}
+use Rattle.pdw_syntax.specs.declared.statement.Statement.TheVariants as s
 use Rattle.pdw_catalog.specs.Catalog.{table_named}
 use Rattle.pdw_catalog.specs.Table.{most_rows}
 use Rattle.pdw_catalog.specs.declared.table.Table.{Table}

@@ -1,9 +1,9 @@
 -- The statements of a script are written whole.
 use Rattle.std.proofs.Common.{◌≡◌, ℕ, List, true}
 use Rattle.std.specs.List.{list_all}
-use Rattle.pdw_ast.specs.declared.statement.Statement.{Statement}
-use Rattle.pdw_bind.proofs.WrittenLaws.{lexed_script_is_written}
-use Rattle.pdw_bind.specs.Written.{statement_written}
+use Rattle.pdw_syntax.specs.declared.statement.Statement.{Statement}
+use Rattle.pdw_syntax.proofs.WrittenLaws.{lexed_script_is_written}
+use Rattle.pdw_syntax.specs.Written.{statement_written}
 use Rattle.pdw.specs.Reading.{IsScript}
 
 pub IsScript-written : (script : List ℕ) (statements : List Statement) → IsScript script statements → list_all statement_written statements ≡ true

@@ -1,6 +1,6 @@
 -- The lawful outputs of a script.
 use Rattle.std.specs.Prelude.{◌≡◌, ◌⊎◌, ⊤, ℕ, ◌+◌, ◌≤◌, ◌<◌, List, [], ◌∷◌, ◌++◌, length, codes, Option, Some, None}
-use Rattle.pdw_ast.specs.declared.statement.Statement.{Statement}
+use Rattle.pdw_syntax.specs.declared.statement.Statement.{Statement}
 use Rattle.pdw_engine.specs.Executes.{Gives as Answered, RefusesWork}
 use Rattle.pdw_engine.specs.Plain.{Plain, start}
 use Rattle.pdw_engine.specs.Prepared.{Prepares, RefusesFirst, wanted}

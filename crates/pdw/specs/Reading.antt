@@ -1,7 +1,7 @@
 -- What the bytes of a script say: its statements, or its first fault.
 use Rattle.std.specs.Prelude.{◌≡◌, ℕ, List, length, Option, Some}
 use Rattle.std.specs.Str.{IsUtf8}
-use Rattle.pdw_ast.specs.declared.statement.Statement.{Statement}
+use Rattle.pdw_syntax.specs.declared.statement.Statement.{Statement}
 use Rattle.pdw_lex.specs.Lexes.{Lexes}
 use Rattle.pdw_lex.specs.Fault.{IsFault as IsLexFault}
 use Rattle.pdw_lex.specs.declared.token.Token.{Token}

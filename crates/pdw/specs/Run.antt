@@ -1,6 +1,6 @@
 -- What the parts of a run leave: the end that their status tells, what was written, and the counts of faults.
 use Rattle.std.specs.Prelude.{◌≡◌, ℕ, List, take, Option}
-use Rattle.pdw_ast.specs.declared.statement.Statement.{Statement}
+use Rattle.pdw_syntax.specs.declared.statement.Statement.{Statement}
 use Rattle.pdw_outside.specs.Faults.{Rose}
 use Rattle.pdw_outside.specs.Sink.{Adds}
 use Rattle.pdw.specs.declared.status.Status.{Status}

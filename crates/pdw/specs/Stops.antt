@@ -1,6 +1,6 @@
 -- Why a statement gives no text.
 use Rattle.std.specs.Prelude.{◌≡◌, ℕ, List, Option, Some}
-use Rattle.pdw_ast.specs.declared.statement.Statement.{Statement}
+use Rattle.pdw_syntax.specs.declared.statement.Statement.{Statement}
 use Rattle.pdw_engine.specs.Plain.{Plain}
 use Rattle.pdw_engine.specs.declared.refusal.Stop.{Stop as EngineStop}
 use Rattle.pdw_engine.specs.declared.refusal.Stop.TheVariants as engine

@@ -1,7 +1,7 @@
 //! Laws of scripts and of lawful outputs.
 
 ghost use Rattle.std.specs.Prelude.{◌≡◌, ℕ, List};
-ghost use Rattle.pdw_ast.specs.declared.statement.Statement.{Statement as StatementOf};
+ghost use Rattle.pdw_syntax.specs.declared.statement.Statement.{Statement as StatementOf};
 ghost use Rattle.pdw.specs.Output.{BeginsOutput, Cut, Held, Outputs};
 ghost use Rattle.pdw.specs.Reading.{IsScript, IsTextFault};
 ghost use Rattle.pdw.specs.Trace.{Trace};

@@ -2,7 +2,7 @@
 
 ghost use Rattle.std.specs.Prelude.{◌≡◌, true, IfOk, IfErr, OnOk};
 ghost use Rattle.std.specs.Option.{option_map};
-ghost use Rattle.pdw_bind.specs.Written.{statement_written};
+ghost use Rattle.pdw_syntax.specs.Written.{statement_written};
 ghost use Rattle.pdw_engine.specs.Executes.{IsGiven};
 ghost use Rattle.pdw_engine.specs.Plain.{plain_of};
 ghost use Rattle.pdw_engine.specs.Prepared.{wanted};
@@ -12,9 +12,9 @@ ghost use Rattle.pdw.specs.Trace.{prints};
 
 use crate::stop::{Stop, stopped};
 use crate::text;
-use pdw_ast::Statement;
 use pdw_engine::{MOST_FILE_BYTES, Prepared, Session};
 use pdw_outside::{Files, ReadStop, read_whole};
+use pdw_syntax::Statement;
 use std::alloc::Global;
 
 // The content of the file that a statement wants, whole.

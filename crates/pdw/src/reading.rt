@@ -3,14 +3,14 @@
 ghost use Rattle.std.specs.Prelude.{◌≡◌, ◌≤◌, true, Some, IfOk, IfErr, length};
 ghost use Rattle.std.specs.List.{list_all};
 ghost use Rattle.std.specs.String.{string_bytes};
-ghost use Rattle.pdw_bind.specs.Written.{statement_written};
+ghost use Rattle.pdw_syntax.specs.Written.{statement_written};
 ghost use Rattle.pdw.specs.Reading.{HasFault, IsScript, script_line};
 
 use crate::refusal::{no_statements, no_tokens};
-use pdw_ast::Statement;
 use pdw_base::NoMemory;
 use pdw_lex::{LexError, lex};
 use pdw_parse::{ParseError, parse};
+use pdw_syntax::Statement;
 use sqlite_items::Items;
 use std::alloc::Global;
 

@@ -2,7 +2,7 @@
 
 ghost use Rattle.std.specs.Prelude.{◌≡◌, ◌≤◌, ◌⊎◌, true, length};
 ghost use Rattle.std.specs.List.{list_all};
-ghost use Rattle.pdw_bind.specs.Written.{statement_written};
+ghost use Rattle.pdw_syntax.specs.Written.{statement_written};
 ghost use Rattle.pdw_outside.specs.Faults.{Rose};
 ghost use Rattle.pdw_outside.specs.Sink.{Adds};
 ghost use Rattle.pdw.specs.Output.{CountsWriting, Lawful, MeetsNoFault, Outputs, SameReading, ScriptWrites, Writes};
@@ -17,10 +17,10 @@ use crate::refusal::{MOST_SCRIPT_BYTES, long_script};
 use crate::status::Status;
 use crate::step::{refuse, run_statements};
 use crate::words;
-use pdw_ast::Statement;
 use pdw_base::{NodeCount, Str};
 use pdw_engine::Session;
 use pdw_outside::{Files, ReadStop, Sink, read_whole};
+use pdw_syntax::Statement;
 use std::alloc::Global;
 
 // Executes statements over a session without tables.

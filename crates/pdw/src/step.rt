@@ -3,7 +3,7 @@
 ghost use Rattle.std.specs.Prelude.{◌≡◌, true, IfOk, OnErr};
 ghost use Rattle.std.specs.List.{list_all};
 ghost use Rattle.std.specs.String.{string_bytes};
-ghost use Rattle.pdw_bind.specs.Written.{statement_written};
+ghost use Rattle.pdw_syntax.specs.Written.{statement_written};
 ghost use Rattle.pdw_engine.specs.Plain.{plain_of};
 ghost use Rattle.pdw.specs.Output.{CountsWriting, SameReading, Writes};
 ghost use Rattle.pdw.specs.Run.{EndsBy, EndsRefused, Steps};
@@ -13,10 +13,10 @@ use crate::perform::execute;
 use crate::refusal::{long_file, refusal_line};
 use crate::status::Status;
 use crate::stop::Stop;
-use pdw_ast::Statement;
 use pdw_base::NoMemory;
 use pdw_engine::Session;
 use pdw_outside::{Files, Sink, write_whole};
+use pdw_syntax::Statement;
 use std::alloc::Global;
 
 /// Writes the line of a refusal.

@@ -3,16 +3,16 @@ use Rattle.std.proofs.Common.{◌≡◌, List, [], ◌∷◌, ◌++◌, Some, ma
 use Rattle.pdw_lex.specs.declared.sign.Sign.TheVariants.{Semicolon}
 use Rattle.pdw_lex.specs.declared.token.Lexeme.{Lexeme}
 use Rattle.pdw_lex.specs.declared.token.Lexeme.TheVariants.{Sign}
-use Rattle.pdw_ast.specs.Rule.{empty, one, both, none, more}
-use Rattle.pdw_ast.specs.Lexemes.{is_sign, same_sign}
-use Rattle.pdw_ast.specs.Groups.{Groups}
-use Rattle.pdw_ast.specs.Statements.{statement}
-use Rattle.pdw_ast.specs.Texts.{groups, script}
+use Rattle.pdw_syntax.specs.Rule.{empty, one, both, none, more}
+use Rattle.pdw_syntax.specs.Lexemes.{is_sign, same_sign}
+use Rattle.pdw_syntax.specs.Groups.{Groups}
+use Rattle.pdw_syntax.specs.Statements.{statement}
+use Rattle.pdw_syntax.specs.Texts.{IsWritten, groups, most_open, script}
 use Rattle.pdw_ast.specs.Written.{sayings}
 use Rattle.pdw_ast.specs.Spelling.{canonical}
 use Rattle.pdw_ast.specs.Spelling.{statement as spelling}
-use Rattle.pdw_ast.specs.Prints.{IsWritten, MeansAlone, most_open}
-use Rattle.pdw_ast.specs.declared.statement.Statement.{Statement}
+use Rattle.pdw_ast.specs.Prints.{MeansAlone}
+use Rattle.pdw_syntax.specs.declared.statement.Statement.{Statement}
 use Rattle.pdw_ast.proofs.ReprintStatements.{statement_means, statement_spelled}
 use Rattle.pdw_ast.proofs.ReprintValid.{lexemes_valid}
 use Rattle.pdw_ast.proofs.SpacedPieces.{spaced-lexes, spaced-utf8}

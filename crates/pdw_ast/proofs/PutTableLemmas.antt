@@ -4,8 +4,8 @@ use Rattle.std.specs.List.{flat_map}
 use Rattle.std.proofs.lemmas.List.Folds.{flat_map-map}
 use Rattle.pdw_ast.specs.Puts.{Line, puts, primary, join, table}
 use Rattle.pdw_ast.specs.Spelling.{Spelling, primary_step, cond_step, join_step, query_step, table_step}
-use Rattle.pdw_ast.specs.declared.query.Primary.TheFolds.{fold_out-TableRef}
-use Rattle.pdw_ast.specs.declared.query.TableRef.{TableRef, out-TableRef}
+use Rattle.pdw_syntax.specs.declared.query.Primary.TheFolds.{fold_out-TableRef}
+use Rattle.pdw_syntax.specs.declared.query.TableRef.{TableRef, out-TableRef}
 use Rattle.pdw_ast.proofs.PutLemmas.{puts_append}
 
 pub puts-table : (line : Line) (t : TableRef) → puts line (table t) ≡ puts (puts line (primary (out-TableRef t).first)) (flat_map join (out-TableRef t).joins)

@@ -4,14 +4,14 @@ use Rattle.pdw_base.specs.declared.truth.Truth.{Truth}
 use Rattle.pdw_lex.specs.declared.keyword.Keyword.{Keyword}
 use Rattle.pdw_lex.specs.declared.keyword.Keyword.TheVariants as k
 use Rattle.pdw_lex.specs.declared.token.Lexeme.{Lexeme}
-use Rattle.pdw_ast.specs.Rule.{◌>>◌, Many}
-use Rattle.pdw_ast.specs.Lexemes as lexemes
-use Rattle.pdw_ast.specs.Groups.{Groups}
-use Rattle.pdw_ast.specs.Conds as rule
+use Rattle.pdw_syntax.specs.Rule.{◌>>◌, Many}
+use Rattle.pdw_syntax.specs.Lexemes as lexemes
+use Rattle.pdw_syntax.specs.Groups.{Groups}
+use Rattle.pdw_syntax.specs.Conds as rule
 use Rattle.pdw_ast.specs.Written as written
 use Rattle.pdw_ast.specs.Spelling as spelling
 use Rattle.pdw_ast.specs.Spelling.{Spelling}
-use Rattle.pdw_ast.specs.declared.query.SqlCond.{SqlCond}
+use Rattle.pdw_syntax.specs.declared.query.SqlCond.{SqlCond}
 use Rattle.pdw_ast.proofs.Reprint.{Reprints, spelled_as, and_then, and_last, and_nothing, and_text, if_any, reprints_maybe, reprints_either, reprints_made, reprints_many, reprints_enclosed}
 use Rattle.pdw_ast.proofs.ReprintOne.{at_key, key_reprints, comparison_reprints, truth_reprints}
 use Rattle.pdw_ast.proofs.ReprintEquations.{flat_map_map, cond, cond_compare, cond_like, cond_null, cond_between, cond_in_list, cond_in_query, cond_exists, cond_test, cond_not, cond_all, cond_any, cond_paren}

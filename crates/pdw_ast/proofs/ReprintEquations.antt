@@ -6,25 +6,25 @@ use Rattle.pdw_lex.specs.declared.sign.Sign.TheVariants as s
 use Rattle.pdw_base.specs.declared.truth.Truth.{Truth}
 use Rattle.pdw_expr.specs.declared.cond.Cmp.{Cmp}
 use Rattle.pdw_lex.specs.declared.keyword.Keyword.TheVariants as k
-use Rattle.pdw_ast.specs.declared.query.Items.{Items}
-use Rattle.pdw_ast.specs.declared.query.JoinWord.{JoinWord}
-use Rattle.pdw_ast.specs.declared.query.JoinPart.{JoinPart, roll-JoinPart}
-use Rattle.pdw_ast.specs.declared.query.Primary.{Primary}
-use Rattle.pdw_ast.specs.declared.query.Primary.TheOpen.{Primary-F, SqlCond-F}
-use Rattle.pdw_ast.specs.declared.query.Primary.TheFolds.{fold-Primary, fold-SqlCond, fold-JoinPart, fold-TableRef, fold-roll-Primary, fold-roll-SqlCond, fold-roll-JoinPart, fold-roll-Query, fold-roll-TableRef}
-use Rattle.pdw_ast.specs.declared.query.Primary.TheVariants as p
-use Rattle.pdw_ast.specs.declared.query.Query.{Query, roll-Query}
-use Rattle.pdw_ast.specs.declared.query.SqlCond.{SqlCond}
-use Rattle.pdw_ast.specs.declared.query.SqlCond.TheVariants as c
-use Rattle.pdw_ast.specs.declared.query.TableRef.{TableRef, roll-TableRef}
+use Rattle.pdw_syntax.specs.declared.query.Items.{Items}
+use Rattle.pdw_syntax.specs.declared.query.JoinWord.{JoinWord}
+use Rattle.pdw_syntax.specs.declared.query.JoinPart.{JoinPart, roll-JoinPart}
+use Rattle.pdw_syntax.specs.declared.query.Primary.{Primary}
+use Rattle.pdw_syntax.specs.declared.query.Primary.TheOpen.{Primary-F, SqlCond-F}
+use Rattle.pdw_syntax.specs.declared.query.Primary.TheFolds.{fold-Primary, fold-SqlCond, fold-JoinPart, fold-TableRef, fold-roll-Primary, fold-roll-SqlCond, fold-roll-JoinPart, fold-roll-Query, fold-roll-TableRef}
+use Rattle.pdw_syntax.specs.declared.query.Primary.TheVariants as p
+use Rattle.pdw_syntax.specs.declared.query.Query.{Query, roll-Query}
+use Rattle.pdw_syntax.specs.declared.query.SqlCond.{SqlCond}
+use Rattle.pdw_syntax.specs.declared.query.SqlCond.TheVariants as c
+use Rattle.pdw_syntax.specs.declared.query.TableRef.{TableRef, roll-TableRef}
 use Rattle.pdw_ast.specs.Written.{key, name, number, text, sign}
 use Rattle.pdw_ast.specs.Spelling.{Spelling, parenthesized, aggregate, operator, column_reference, expr_step, expr, query, primary_step, cond_step, join_step, query_step, table_step, negation, comparison, truth_word, keyword_list, comma_list, alias, clause, group_clause, selected, join_word}
-use Rattle.pdw_ast.specs.declared.expr.ColRef.{ColRef}
-use Rattle.pdw_ast.specs.declared.expr.SqlExpr.{SqlExpr}
-use Rattle.pdw_ast.specs.declared.expr.SqlExpr.TheOpen.{SqlExpr-F}
-use Rattle.pdw_ast.specs.declared.expr.SqlExpr.TheFolds.{fold-roll-SqlExpr}
-use Rattle.pdw_ast.specs.declared.expr.SqlExpr.TheVariants as e
-use Rattle.pdw_ast.specs.declared.expr.SqlExpr.TheVariants.{rolls-Col, rolls-Number, rolls-Text, rolls-Signed, rolls-Chain, rolls-Agg, rolls-Paren}
+use Rattle.pdw_syntax.specs.declared.expr.ColRef.{ColRef}
+use Rattle.pdw_syntax.specs.declared.expr.SqlExpr.{SqlExpr}
+use Rattle.pdw_syntax.specs.declared.expr.SqlExpr.TheOpen.{SqlExpr-F}
+use Rattle.pdw_syntax.specs.declared.expr.SqlExpr.TheFolds.{fold-roll-SqlExpr}
+use Rattle.pdw_syntax.specs.declared.expr.SqlExpr.TheVariants as e
+use Rattle.pdw_syntax.specs.declared.expr.SqlExpr.TheVariants.{rolls-Col, rolls-Number, rolls-Text, rolls-Signed, rolls-Chain, rolls-Agg, rolls-Paren}
 
 pub flat_map_map : {X Y Z : Type 0} (f : Y → List Z) (g : X → Y) (xs : List X) → flat_map f (map g xs) ≡ flat_map (λ x. f (g x)) xs
 flat_map_map f g [] = refl

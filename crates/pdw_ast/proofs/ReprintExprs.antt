@@ -5,14 +5,14 @@ use Rattle.pdw_expr.specs.declared.scalar.Arith.{Arith}
 use Rattle.pdw_lex.specs.declared.keyword.Keyword.TheVariants as k
 use Rattle.pdw_lex.specs.declared.sign.Sign.TheVariants as s
 use Rattle.pdw_lex.specs.declared.token.Lexeme.{Lexeme}
-use Rattle.pdw_ast.specs.Rule.{Rule, ◌>>=◌, ◌>>◌, pure, One, Many}
-use Rattle.pdw_ast.specs.Lexemes as lexemes
-use Rattle.pdw_ast.specs.Groups.{Groups}
-use Rattle.pdw_ast.specs.Exprs as rule
+use Rattle.pdw_syntax.specs.Rule.{Rule, ◌>>=◌, ◌>>◌, pure, One, Many}
+use Rattle.pdw_syntax.specs.Lexemes as lexemes
+use Rattle.pdw_syntax.specs.Groups.{Groups}
+use Rattle.pdw_syntax.specs.Exprs as rule
 use Rattle.pdw_ast.specs.Written as written
 use Rattle.pdw_ast.specs.Spelling as spelling
 use Rattle.pdw_ast.specs.Spelling.{Spelling}
-use Rattle.pdw_ast.specs.declared.expr.SqlExpr.{SqlExpr}
+use Rattle.pdw_syntax.specs.declared.expr.SqlExpr.{SqlExpr}
 use Rattle.pdw_ast.proofs.Reprint.{Reprints, spelled_as, and_then, and_last, and_nothing, and_text, if_any, reprints_maybe, reprints_either, reprints_made, reprints_many, reprints_enclosed}
 use Rattle.pdw_ast.proofs.ReprintOne.{at_key, at_sign, name_reprints, number_reprints, text_reprints, minus_reprints, aggregate_reprints, term_operator_reprints, factor_operator_reprints}
 use Rattle.pdw_ast.proofs.ReprintEquations.{expr_col, expr_number, expr_text, expr_signed, expr_chain, expr_agg, expr_agg_star, expr_paren, flat_map_map, cond, table_reference}

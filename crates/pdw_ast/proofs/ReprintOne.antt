@@ -18,18 +18,18 @@ use Rattle.pdw_lex.specs.declared.sign.Sign.{Sign}
 use Rattle.pdw_lex.specs.declared.sign.Sign.TheVariants as s
 use Rattle.pdw_lex.specs.declared.token.Lexeme.{Lexeme}
 use Rattle.pdw_lex.specs.declared.token.Lexeme.TheVariants as lexeme
-use Rattle.pdw_ast.specs.Rule.{One, one, Then}
-use Rattle.pdw_ast.specs.Lexemes as rule
-use Rattle.pdw_ast.specs.Lexemes.{same_keyword, same_sign, is_key, is_sign, is_word}
+use Rattle.pdw_syntax.specs.Rule.{One, one, Then}
+use Rattle.pdw_syntax.specs.Lexemes as rule
+use Rattle.pdw_syntax.specs.Lexemes.{same_keyword, same_sign, is_key, is_sign, is_word}
 use Rattle.pdw_ast.specs.Written as written
 use Rattle.pdw_ast.specs.Written.{Written}
 use Rattle.pdw_ast.specs.Spelling as spelling
 use Rattle.pdw_ast.specs.Spelling.{Spelling}
-use Rattle.pdw_ast.specs.declared.query.JoinWord.{JoinWord}
-use Rattle.pdw_ast.specs.declared.query.OrderName.{OrderName}
-use Rattle.pdw_ast.specs.declared.query.OrderName.TheVariants as order
-use Rattle.pdw_ast.specs.declared.statement.CostPart.{CostPart}
-use Rattle.pdw_ast.specs.declared.statement.CostPart.TheVariants as cost
+use Rattle.pdw_syntax.specs.declared.query.JoinWord.{JoinWord}
+use Rattle.pdw_syntax.specs.declared.query.OrderName.{OrderName}
+use Rattle.pdw_syntax.specs.declared.query.OrderName.TheVariants as order
+use Rattle.pdw_syntax.specs.declared.statement.CostPart.{CostPart}
+use Rattle.pdw_syntax.specs.declared.statement.CostPart.TheVariants as cost
 use Rattle.pdw_ast.proofs.Valid.{Valid, Spelled}
 use Rattle.pdw_ast.proofs.Reprint.{Printed, Reprints, Continues, Token, none_not_some, printed_one, always}
 use Rattle.pdw_ast.proofs.ReprintTokens.{key_spelled, sign_spelled, int_spelled, text_word_spelled, reader_spelled, hashreader_spelled, network_spelled, writer_spelled, bulk_spelled, control_spelled, name_spelled, text_spelled, number_spelled}

@@ -5,19 +5,19 @@ use Rattle.pdw_lex.specs.declared.keyword.Keyword.{Keyword}
 use Rattle.pdw_lex.specs.declared.keyword.Keyword.TheVariants as k
 use Rattle.pdw_lex.specs.declared.sign.Sign.TheVariants as s
 use Rattle.pdw_lex.specs.declared.token.Lexeme.{Lexeme}
-use Rattle.pdw_ast.specs.Rule.{◌>>◌, ◌<$>◌, Empty, empty, One, Then, both, Maybe, present}
-use Rattle.pdw_ast.specs.Lexemes as lexemes
-use Rattle.pdw_ast.specs.Groups.{Groups}
-use Rattle.pdw_ast.specs.Conds as conds
-use Rattle.pdw_ast.specs.Exprs as exprs
-use Rattle.pdw_ast.specs.Queries as rule
+use Rattle.pdw_syntax.specs.Rule.{◌>>◌, ◌<$>◌, Empty, empty, One, Then, both, Maybe, present}
+use Rattle.pdw_syntax.specs.Lexemes as lexemes
+use Rattle.pdw_syntax.specs.Groups.{Groups}
+use Rattle.pdw_syntax.specs.Conds as conds
+use Rattle.pdw_syntax.specs.Exprs as exprs
+use Rattle.pdw_syntax.specs.Queries as rule
 use Rattle.pdw_ast.specs.Written as written
 use Rattle.pdw_ast.specs.Spelling as spelling
 use Rattle.pdw_ast.specs.Spelling.{Spelling}
-use Rattle.pdw_ast.specs.declared.query.OrderKey.{OrderKey}
-use Rattle.pdw_ast.specs.declared.query.OrderName.{OrderName}
-use Rattle.pdw_ast.specs.declared.query.OrderName.TheVariants as order
-use Rattle.pdw_ast.specs.declared.query.SqlCond.{SqlCond}
+use Rattle.pdw_syntax.specs.declared.query.OrderKey.{OrderKey}
+use Rattle.pdw_syntax.specs.declared.query.OrderName.{OrderName}
+use Rattle.pdw_syntax.specs.declared.query.OrderName.TheVariants as order
+use Rattle.pdw_syntax.specs.declared.query.SqlCond.{SqlCond}
 use Rattle.pdw_ast.proofs.Reprint.{Printed, Reprints, spelled_as, and_then, and_last, and_nothing, and_text, if_any, printed_then, printed_made, printed_present, reprints_maybe, reprints_either, reprints_made, respelled}
 use Rattle.pdw_ast.proofs.ReprintOne.{at_key, at_sign, name_reprints, key_reprints, quantifier_reprints, order_word, order_name_reprints, printed_direction}
 use Rattle.pdw_ast.proofs.ReprintEquations.{flat_map_map, cond, query_roll}

@@ -4,14 +4,14 @@ use Rattle.pdw_base.specs.declared.value.Kind.{Kind}
 use Rattle.pdw_lex.specs.declared.keyword.Keyword.TheVariants as k
 use Rattle.pdw_lex.specs.declared.sign.Sign.TheVariants as s
 use Rattle.pdw_lex.specs.declared.token.Lexeme.{Lexeme}
-use Rattle.pdw_ast.specs.Groups.{Groups}
-use Rattle.pdw_ast.specs.Statements as rule
-use Rattle.pdw_ast.specs.Texts.{groups}
+use Rattle.pdw_syntax.specs.Groups.{Groups}
+use Rattle.pdw_syntax.specs.Statements as rule
+use Rattle.pdw_syntax.specs.Texts.{groups}
 use Rattle.pdw_ast.specs.Written as written
 use Rattle.pdw_ast.specs.Written.{sayings}
 use Rattle.pdw_ast.specs.Spelling as spelling
 use Rattle.pdw_ast.specs.Spelling.{Spelling}
-use Rattle.pdw_ast.specs.declared.statement.Statement.{Statement}
+use Rattle.pdw_syntax.specs.declared.statement.Statement.{Statement}
 use Rattle.pdw_ast.proofs.Valid.{AllValid, AllSpelled}
 use Rattle.pdw_ast.proofs.Reprint.{Reprints, spelled_as, and_then, and_last, and_nothing, and_text, if_any, reprints_maybe, reprints_either, reprints_made, reprints_enclosed}
 use Rattle.pdw_ast.proofs.ReprintTokens.{hash_spelled, replicate_spelled, distribution_spelled, load_spelled, width_spelled, rows_spelled, statistics_spelled, budget_spelled, cost_spelled, explain_spelled, json_spelled, profile_spelled, check_spelled, plan_spelled, for_spelled}

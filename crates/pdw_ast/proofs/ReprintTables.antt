@@ -2,15 +2,15 @@
 use Rattle.std.proofs.Common.{◌≡◌, ℕ, List, [], ◌∷◌, map, Option, Some, None, refl, sym, ◌∙◌, ap, append-nil}
 use Rattle.pdw_lex.specs.declared.keyword.Keyword.TheVariants as k
 use Rattle.pdw_lex.specs.declared.token.Lexeme.{Lexeme}
-use Rattle.pdw_ast.specs.Rule.{◌>>=◌, ◌>>◌, pure, empty, One, first, second, Maybe, absent}
-use Rattle.pdw_ast.specs.Lexemes as lexemes
-use Rattle.pdw_ast.specs.Groups.{Groups}
-use Rattle.pdw_ast.specs.Tables as rule
+use Rattle.pdw_syntax.specs.Rule.{◌>>=◌, ◌>>◌, pure, empty, One, first, second, Maybe, absent}
+use Rattle.pdw_syntax.specs.Lexemes as lexemes
+use Rattle.pdw_syntax.specs.Groups.{Groups}
+use Rattle.pdw_syntax.specs.Tables as rule
 use Rattle.pdw_ast.specs.Written as written
 use Rattle.pdw_ast.specs.Spelling as spelling
 use Rattle.pdw_ast.specs.Spelling.{Spelling}
-use Rattle.pdw_ast.specs.declared.query.JoinWord.{JoinWord}
-use Rattle.pdw_ast.specs.declared.query.JoinWord.TheVariants.{Cross, Inner}
+use Rattle.pdw_syntax.specs.declared.query.JoinWord.{JoinWord}
+use Rattle.pdw_syntax.specs.declared.query.JoinWord.TheVariants.{Cross, Inner}
 use Rattle.pdw_ast.proofs.Reprint.{Printed, Reprints, spelled_as, and_then, and_last, and_nothing, and_text, always, if_any, printed_empty, printed_then, printed_first, printed_second, printed_present, reprints_maybe, reprints_either, reprints_made, reprints_many, reprints_enclosed}
 use Rattle.pdw_ast.proofs.ReprintOne.{at_key, printed_key, name_reprints, outer_reprints}
 use Rattle.pdw_ast.proofs.ReprintEquations.{primary, primary_named, primary_derived, primary_paren, join, join_none, join_some, table_reference, table_roll}

@@ -1,12 +1,3 @@
-pub mod Rule
-pub mod Lexemes
-pub mod Groups
-pub mod Exprs
-pub mod Conds
-pub mod Tables
-pub mod Queries
-pub mod Statements
-pub mod Texts
 pub mod Written
 pub mod Spelling
 pub mod Prints

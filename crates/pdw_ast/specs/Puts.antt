@@ -1,11 +1,11 @@
 -- How a text grows by tokens, one space between each two.
 use Rattle.std.specs.Prelude.{ℕ, Bool, true, List, ◌++◌, codes, fold, if◌then◌else◌}
 use Rattle.pdw_ast.specs.Spelling.{Spelling, primary_step, cond_step, join_step, query_step, table_step}
-use Rattle.pdw_ast.specs.declared.query.JoinPart.{JoinPart}
-use Rattle.pdw_ast.specs.declared.query.Primary.{Primary}
-use Rattle.pdw_ast.specs.declared.query.Primary.TheFolds.{fold-Primary, fold-SqlCond, fold-JoinPart, fold-TableRef}
-use Rattle.pdw_ast.specs.declared.query.SqlCond.{SqlCond}
-use Rattle.pdw_ast.specs.declared.query.TableRef.{TableRef}
+use Rattle.pdw_syntax.specs.declared.query.JoinPart.{JoinPart}
+use Rattle.pdw_syntax.specs.declared.query.Primary.{Primary}
+use Rattle.pdw_syntax.specs.declared.query.Primary.TheFolds.{fold-Primary, fold-SqlCond, fold-JoinPart, fold-TableRef}
+use Rattle.pdw_syntax.specs.declared.query.SqlCond.{SqlCond}
+use Rattle.pdw_syntax.specs.declared.query.TableRef.{TableRef}
 
 -- a text, and whether it has a token
 abbrev pub Line : Type 0

@@ -15,27 +15,27 @@ use Rattle.pdw_lex.specs.declared.keyword.Keyword.{Keyword}
 use Rattle.pdw_lex.specs.declared.keyword.Keyword.TheVariants as k
 use Rattle.pdw_lex.specs.declared.sign.Sign.TheVariants as s
 use Rattle.pdw_ast.specs.Written.{Written, key, word, name, number, text, sign, spaced}
-use Rattle.pdw_ast.specs.declared.expr.ColRef.{ColRef}
-use Rattle.pdw_ast.specs.declared.expr.SqlExpr.{SqlExpr}
-use Rattle.pdw_ast.specs.declared.expr.SqlExpr.TheOpen.{SqlExpr-F}
-use Rattle.pdw_ast.specs.declared.expr.SqlExpr.TheFolds.{fold-SqlExpr}
-use Rattle.pdw_ast.specs.declared.query.Item.{Item}
-use Rattle.pdw_ast.specs.declared.query.Item.TheVariants as item_is
-use Rattle.pdw_ast.specs.declared.query.Items.{Items}
-use Rattle.pdw_ast.specs.declared.query.Items.TheVariants as items_are
-use Rattle.pdw_ast.specs.declared.query.JoinWord.{JoinWord}
-use Rattle.pdw_ast.specs.declared.query.JoinWord.TheVariants as join_is
-use Rattle.pdw_ast.specs.declared.query.OrderKey.{OrderKey}
-use Rattle.pdw_ast.specs.declared.query.OrderName.{OrderName}
-use Rattle.pdw_ast.specs.declared.query.OrderName.TheVariants as order_is
-use Rattle.pdw_ast.specs.declared.query.Primary.TheOpen.{Primary-F, SqlCond-F, JoinPart-F, Query-F, TableRef-F}
-use Rattle.pdw_ast.specs.declared.query.Primary.TheFolds.{fold-Query}
-use Rattle.pdw_ast.specs.declared.query.Query.{Query}
-use Rattle.pdw_ast.specs.declared.query.Select.{Select}
-use Rattle.pdw_ast.specs.declared.statement.CostPart.{CostPart}
-use Rattle.pdw_ast.specs.declared.statement.CostPart.TheVariants as cost
-use Rattle.pdw_ast.specs.declared.statement.Statement.{Statement}
-use Rattle.pdw_ast.specs.declared.statement.Statement.TheVariants as statement_is
+use Rattle.pdw_syntax.specs.declared.expr.ColRef.{ColRef}
+use Rattle.pdw_syntax.specs.declared.expr.SqlExpr.{SqlExpr}
+use Rattle.pdw_syntax.specs.declared.expr.SqlExpr.TheOpen.{SqlExpr-F}
+use Rattle.pdw_syntax.specs.declared.expr.SqlExpr.TheFolds.{fold-SqlExpr}
+use Rattle.pdw_syntax.specs.declared.query.Item.{Item}
+use Rattle.pdw_syntax.specs.declared.query.Item.TheVariants as item_is
+use Rattle.pdw_syntax.specs.declared.query.Items.{Items}
+use Rattle.pdw_syntax.specs.declared.query.Items.TheVariants as items_are
+use Rattle.pdw_syntax.specs.declared.query.JoinWord.{JoinWord}
+use Rattle.pdw_syntax.specs.declared.query.JoinWord.TheVariants as join_is
+use Rattle.pdw_syntax.specs.declared.query.OrderKey.{OrderKey}
+use Rattle.pdw_syntax.specs.declared.query.OrderName.{OrderName}
+use Rattle.pdw_syntax.specs.declared.query.OrderName.TheVariants as order_is
+use Rattle.pdw_syntax.specs.declared.query.Primary.TheOpen.{Primary-F, SqlCond-F, JoinPart-F, Query-F, TableRef-F}
+use Rattle.pdw_syntax.specs.declared.query.Primary.TheFolds.{fold-Query}
+use Rattle.pdw_syntax.specs.declared.query.Query.{Query}
+use Rattle.pdw_syntax.specs.declared.query.Select.{Select}
+use Rattle.pdw_syntax.specs.declared.statement.CostPart.{CostPart}
+use Rattle.pdw_syntax.specs.declared.statement.CostPart.TheVariants as cost
+use Rattle.pdw_syntax.specs.declared.statement.Statement.{Statement}
+use Rattle.pdw_syntax.specs.declared.statement.Statement.TheVariants as statement_is
 
 abbrev pub Spelling : Type 0
 Spelling = List Written

@@ -1,14 +1,10 @@
-//! Statements as they are written.
+//! Statements as they are written, and their canonical spelling.
 #![tactic(auto)]
 
-mod expr;
 mod print;
-mod query;
-mod statement;
 
-pub use expr::{ColRef, SqlExpr};
-pub use print::print_statement;
-pub use query::{
-    Item, Items, JoinPart, JoinWord, OrderKey, OrderName, Primary, Query, Select, SqlCond, TableRef,
+pub use pdw_syntax::{
+    ColRef, CostPart, Item, Items, JoinPart, JoinWord, OrderKey, OrderName, Primary, Query, Select,
+    SqlCond, SqlExpr, Statement, TableRef,
 };
-pub use statement::{CostPart, Statement};
+pub use print::print_statement;

@@ -30,6 +30,3 @@ pub mod SoundItems
 pub mod SoundQueries
 pub mod SoundInduction
 pub mod TreeLaw
-pub mod WrittenRules
-pub mod WrittenEquations
-pub mod WrittenLaws

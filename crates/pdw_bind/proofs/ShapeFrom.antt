@@ -8,8 +8,8 @@ use Rattle.std.proofs.lemmas.List.Folds.{flat_map-map}
 use Rattle.pdw_algebra.specs.Shape.{Shape, all_apart, all_typed, are_apart, block_columns, is_empty, is_outer, joined_columns, leaves_fit, shape_of}
 use Rattle.pdw_algebra.specs.declared.tree.Tree.TheVariants as tree
 use Rattle.pdw_algebra.specs.declared.tree.Tree.{Tree}
-use Rattle.pdw_ast.specs.declared.query.JoinWord.TheVariants as word
-use Rattle.pdw_ast.specs.declared.query.JoinWord.{JoinWord}
+use Rattle.pdw_syntax.specs.declared.query.JoinWord.TheVariants as word
+use Rattle.pdw_syntax.specs.declared.query.JoinWord.{JoinWord}
 use Rattle.pdw_base.specs.Schema.{Columns}
 use Rattle.pdw_base.specs.declared.schema.ColId.{ColId}
 use Rattle.pdw_bind.proofs.ShapeLeaves.{LeavesSound, leaves_both, leaves_more, leaves_none, leaves_one}

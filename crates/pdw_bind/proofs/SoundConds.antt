@@ -5,8 +5,8 @@ use Rattle.std.proofs.lemmas.Bool.{and_parts, and_from}
 use Rattle.std.proofs.lemmas.List.Folds.{list_all-map}
 use Rattle.pdw_algebra.specs.Shape.{all_typed}
 use Rattle.pdw_algebra.specs.Types.{is_text, is_typed, same_kinds, scalar_kind, typed_step}
-use Rattle.pdw_ast.specs.declared.expr.SqlExpr.{SqlExpr}
-use Rattle.pdw_ast.specs.declared.query.Primary.TheOpen.{SqlCond-F}
+use Rattle.pdw_syntax.specs.declared.expr.SqlExpr.{SqlExpr}
+use Rattle.pdw_syntax.specs.declared.query.Primary.TheOpen.{SqlCond-F}
 use Rattle.pdw_base.specs.Schema.{Columns}
 use Rattle.pdw_base.specs.declared.truth.Truth.{Truth}
 use Rattle.pdw_base.specs.declared.value.Kind.{Kind}
@@ -14,7 +14,7 @@ use Rattle.pdw_base.specs.declared.value.Kind.TheVariants as kind
 use Rattle.pdw_bind.proofs.SoundExprs.{expr_knows, expr_sound}
 use Rattle.pdw_bind.proofs.SoundRelations.{CondSound, CondSoundIf, ConjunctSound, QuerySound, SubquerySound, SubquerySoundIf, TestKinds, TestSound, TestedKinds}
 use Rattle.pdw_bind.proofs.SoundSteps.{Both, Every, HasKind, IsTyped, Knowing, StepKnows, each_knows, ends_checked, ends_with, goes_on_then, knowing_then, knows_test}
-use Rattle.pdw_bind.specs.Written.{expr_written}
+use Rattle.pdw_syntax.specs.Written.{expr_written}
 use Rattle.pdw_catalog.specs.Database.{Database}
 use Rattle.pdw_expr.specs.declared.cond.Cmp.{Cmp}
 use Rattle.pdw_expr.specs.declared.cond.Cmp.TheVariants.{Eq, Ge, Le}

@@ -6,7 +6,7 @@ use Rattle.std.specs.Str.{bytes_eq}
 use Rattle.std.proofs.lemmas.Bool.{and_from}
 use Rattle.std.proofs.lemmas.Option.{same_Some}
 use Rattle.pdw_algebra.specs.Schema.{kind_at}
-use Rattle.pdw_ast.specs.declared.query.Primary.TheOpen.{Primary-F}
+use Rattle.pdw_syntax.specs.declared.query.Primary.TheOpen.{Primary-F}
 use Rattle.pdw_base.specs.Schema.{Columns, Env}
 use Rattle.pdw_base.specs.declared.schema.ColId.{ColId}
 use Rattle.pdw_base.specs.declared.value.Kind.{Kind}

@@ -7,11 +7,11 @@ use Rattle.pdw_algebra.proofs.PartLemmas.{kind-chain}
 use Rattle.pdw_algebra.specs.Schema.{kind_at}
 use Rattle.pdw_algebra.specs.Types.{aggregate_kind_by, is_number, kind_over, literal_kind, number_if, scalar_kind, scalar_kind_step}
 use Rattle.pdw_algebra.specs.Types as numbered
-use Rattle.pdw_ast.specs.declared.expr.ColRef.{ColRef}
-use Rattle.pdw_ast.specs.declared.expr.SqlExpr.{SqlExpr}
-use Rattle.pdw_ast.specs.declared.expr.SqlExpr.TheOpen.{SqlExpr-F}
-use Rattle.pdw_ast.specs.declared.expr.SqlExpr.TheViews.{roll-SqlExpr}
-use Rattle.pdw_ast.specs.declared.expr.SqlExpr.TheFolds.{fold-roll-SqlExpr, ind-SqlExpr, map-SqlExpr}
+use Rattle.pdw_syntax.specs.declared.expr.ColRef.{ColRef}
+use Rattle.pdw_syntax.specs.declared.expr.SqlExpr.{SqlExpr}
+use Rattle.pdw_syntax.specs.declared.expr.SqlExpr.TheOpen.{SqlExpr-F}
+use Rattle.pdw_syntax.specs.declared.expr.SqlExpr.TheViews.{roll-SqlExpr}
+use Rattle.pdw_syntax.specs.declared.expr.SqlExpr.TheFolds.{fold-roll-SqlExpr, ind-SqlExpr, map-SqlExpr}
 use Rattle.pdw_base.specs.Schema.{Columns}
 use Rattle.pdw_base.specs.declared.schema.ColId.{ColId}
 use Rattle.pdw_base.specs.declared.value.Kind.{Kind}
@@ -21,7 +21,7 @@ use Rattle.pdw_base.specs.declared.value.Value.TheVariants as value
 use Rattle.pdw_bind.proofs.Added.{adds-map, adds-one, adds-same, adds-trans, among-member}
 use Rattle.pdw_bind.proofs.SoundRelations.{Adds, AggsMade, AggsTyped, Among, AmongNear, ExprSound, GroupKinds, GroupKindsIn, KindAt, KindsOf, NearKinds, Sees, Used}
 use Rattle.pdw_bind.proofs.SoundSteps.{Every, GoesOn, HasKind, Knowing, Knows, StepKnows, each_knows, ends_checked, extends-grows, goes_on_then, kinds_of-fewer, knowing_then, knows_expr, knows_made, knows_pure}
-use Rattle.pdw_bind.specs.Written.{counts_rows, expr_written, expr_written_step}
+use Rattle.pdw_syntax.specs.Written.{counts_rows, expr_written, expr_written_step}
 use Rattle.pdw_catalog.specs.declared.table.TheConstants.{MOST_TEXT_BYTES}
 use Rattle.pdw_expr.specs.declared.agg.Agg.{Agg}
 use Rattle.pdw_expr.specs.declared.agg.AggKind.{AggKind}

@@ -7,7 +7,7 @@ use Rattle.std.proofs.lemmas.List.{map-append}
 use Rattle.std.proofs.lemmas.List.Folds.{list_all-append, list_any-append}
 use Rattle.std.proofs.lemmas.List.Sums.{fold-append}
 use Rattle.pdw_algebra.specs.Shape.{all_apart, are_apart}
-use Rattle.pdw_ast.specs.declared.query.Primary.TheOpen.{Primary-F}
+use Rattle.pdw_syntax.specs.declared.query.Primary.TheOpen.{Primary-F}
 use Rattle.pdw_bind.proofs.Added.{adds-grows, adds-map, adds-trans, behind-new, new-begins, new-ends, or-true}
 use Rattle.pdw_bind.proofs.Ranges.{all_apart-push}
 use Rattle.pdw_bind.proofs.SoundJoins.{apart, both-leaves, fits-block, later-covers-left, later-covers-right, right-covers, straight}

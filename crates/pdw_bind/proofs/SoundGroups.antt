@@ -6,7 +6,7 @@ use Rattle.std.proofs.lemmas.List.Quantifiers.{position-Some}
 use Rattle.pdw_algebra.specs.Schema.{kind_at}
 use Rattle.pdw_algebra.specs.Shape.{aggregate_column, all_typed, has_number, key_column, kind_or_int}
 use Rattle.pdw_algebra.specs.Types.{aggregate_kind}
-use Rattle.pdw_ast.specs.declared.expr.ColRef.{ColRef}
+use Rattle.pdw_syntax.specs.declared.expr.ColRef.{ColRef}
 use Rattle.pdw_base.specs.Schema.{Columns}
 use Rattle.pdw_base.specs.declared.schema.ColId.{ColId}
 use Rattle.pdw_bind.proofs.Added.{adds-same, adds-trans}

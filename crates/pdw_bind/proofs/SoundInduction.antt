@@ -3,15 +3,15 @@ use Rattle.std.proofs.Common.{◌≡◌, ◌<◌, Bool, true, false, not, List, 
 use Rattle.std.specs.List.{AllByRecursion, list_all}
 use Rattle.std.proofs.lemmas.Bool.{and_from, and_parts}
 use Rattle.std.proofs.lemmas.Option.{none-some}
-use Rattle.pdw_ast.specs.declared.query.JoinPart.{JoinPart, roll-JoinPart}
-use Rattle.pdw_ast.specs.declared.query.Primary.TheFolds.{fold-JoinPart, fold-Primary, fold-Query, fold-SqlCond, fold-TableRef, fold-roll-JoinPart, fold-roll-Primary, fold-roll-Query, fold-roll-SqlCond, fold-roll-TableRef, ind-Query, map-JoinPart, map-Primary, map-Query, map-SqlCond, map-TableRef}
-use Rattle.pdw_ast.specs.declared.query.Primary.TheOpen.{JoinPart-F, Primary-F, Query-F, SqlCond-F, TableRef-F}
-use Rattle.pdw_ast.specs.declared.query.Primary.TheViews.{roll-Primary, roll-SqlCond}
-use Rattle.pdw_ast.specs.declared.query.Primary.{Primary}
-use Rattle.pdw_ast.specs.declared.query.Query.{Query, roll-Query}
-use Rattle.pdw_ast.specs.declared.query.Select.{Select}
-use Rattle.pdw_ast.specs.declared.query.SqlCond.{SqlCond}
-use Rattle.pdw_ast.specs.declared.query.TableRef.{TableRef, roll-TableRef}
+use Rattle.pdw_syntax.specs.declared.query.JoinPart.{JoinPart, roll-JoinPart}
+use Rattle.pdw_syntax.specs.declared.query.Primary.TheFolds.{fold-JoinPart, fold-Primary, fold-Query, fold-SqlCond, fold-TableRef, fold-roll-JoinPart, fold-roll-Primary, fold-roll-Query, fold-roll-SqlCond, fold-roll-TableRef, ind-Query, map-JoinPart, map-Primary, map-Query, map-SqlCond, map-TableRef}
+use Rattle.pdw_syntax.specs.declared.query.Primary.TheOpen.{JoinPart-F, Primary-F, Query-F, SqlCond-F, TableRef-F}
+use Rattle.pdw_syntax.specs.declared.query.Primary.TheViews.{roll-Primary, roll-SqlCond}
+use Rattle.pdw_syntax.specs.declared.query.Primary.{Primary}
+use Rattle.pdw_syntax.specs.declared.query.Query.{Query, roll-Query}
+use Rattle.pdw_syntax.specs.declared.query.Select.{Select}
+use Rattle.pdw_syntax.specs.declared.query.SqlCond.{SqlCond}
+use Rattle.pdw_syntax.specs.declared.query.TableRef.{TableRef, roll-TableRef}
 use Rattle.pdw_bind.proofs.SoundConds.{all_sound, any_sound, between_sound, compare_sound, exists_sound, in_list_sound, in_query_sound, like_sound, not_sound, null_sound, paren_cond_sound, test_sound}
 use Rattle.pdw_bind.proofs.SoundDerived.{derived_sound}
 use Rattle.pdw_bind.proofs.SoundFrom.{paren_sound, table_ref_sound}
@@ -20,7 +20,7 @@ use Rattle.pdw_bind.proofs.SoundQueries.{query_sound}
 use Rattle.pdw_bind.proofs.SoundRelations.{CondSound, CondSoundIf, Distinct, ElementSound, JoinSound, QuerySound}
 use Rattle.pdw_bind.proofs.SoundTables.{named_sound}
 use Rattle.pdw_bind.specs.Sound.{HaveColumns, IsSound, query_shape}
-use Rattle.pdw_bind.specs.Written.{cond_written_step, if_any, join_written_step, primary_written_step, query_written, query_written_step, some_elements, table_written_step}
+use Rattle.pdw_syntax.specs.Written.{cond_written_step, if_any, join_written_step, primary_written_step, query_written, query_written_step, some_elements, table_written_step}
 use Rattle.pdw_catalog.specs.Database.{Database}
 use Rattle.pdw_meaning.proofs.Outcomes.{done_value, in_turn}
 use Rattle.pdw_meaning.proofs.Relations.{Proper}

@@ -5,11 +5,11 @@ use Rattle.std.proofs.lemmas.Bool.{and_parts, ne_eqb}
 use Rattle.std.proofs.lemmas.List.Quantifiers.{position-Some}
 use Rattle.pdw_algebra.specs.Schema.{kind_at}
 use Rattle.pdw_algebra.specs.Types.{scalar_kind}
-use Rattle.pdw_ast.specs.declared.expr.SqlExpr.{SqlExpr}
-use Rattle.pdw_ast.specs.declared.query.Item.{Item}
-use Rattle.pdw_ast.specs.declared.query.Item.TheVariants as item
-use Rattle.pdw_ast.specs.declared.query.Items.{Items}
-use Rattle.pdw_ast.specs.declared.query.Items.TheVariants.{Star, List as Listed}
+use Rattle.pdw_syntax.specs.declared.expr.SqlExpr.{SqlExpr}
+use Rattle.pdw_syntax.specs.declared.query.Item.{Item}
+use Rattle.pdw_syntax.specs.declared.query.Item.TheVariants as item
+use Rattle.pdw_syntax.specs.declared.query.Items.{Items}
+use Rattle.pdw_syntax.specs.declared.query.Items.TheVariants.{Star, List as Listed}
 use Rattle.pdw_base.specs.Schema.{Columns}
 use Rattle.pdw_base.specs.declared.schema.ColId.{ColId}
 use Rattle.pdw_base.specs.declared.value.Kind.{Kind}
@@ -20,7 +20,7 @@ use Rattle.pdw_bind.proofs.SoundLater.{aggs_made-grows, kinds-before, later-grow
 use Rattle.pdw_bind.proofs.SoundRelations.{Adds, AggsMade, AggsTyped, Among, ExprSound, KindAt, KindsOf, Sees, Used}
 use Rattle.pdw_bind.specs.Bind.{first_of}
 use Rattle.pdw_bind.specs.Sound.{judged_kind}
-use Rattle.pdw_bind.specs.Written.{expr_written, item_written, items_written, some_items}
+use Rattle.pdw_syntax.specs.Written.{expr_written, item_written, items_written, some_items}
 use Rattle.pdw_expr.specs.declared.agg.Agg.{Agg}
 use Rattle.pdw_expr.specs.declared.scalar.Scalar.{Scalar}
 use Rattle.pdw_expr.specs.declared.scalar.Scalar.TheVariants.{Col}

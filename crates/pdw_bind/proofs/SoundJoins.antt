@@ -7,8 +7,8 @@ use Rattle.std.proofs.lemmas.Bool.{and_from, false≢true, le-leb}
 use Rattle.std.proofs.lemmas.List.Folds.{list_any-append}
 use Rattle.pdw_algebra.specs.Shape.{all_typed, are_apart}
 use Rattle.pdw_algebra.specs.declared.tree.TheConstants.{MOST_LEAVES}
-use Rattle.pdw_ast.specs.declared.query.JoinWord.{JoinWord}
-use Rattle.pdw_ast.specs.declared.query.JoinWord.TheVariants as word
+use Rattle.pdw_syntax.specs.declared.query.JoinWord.{JoinWord}
+use Rattle.pdw_syntax.specs.declared.query.JoinWord.TheVariants as word
 use Rattle.pdw_base.specs.Schema.{Columns}
 use Rattle.pdw_base.specs.declared.schema.ColId.{ColId}
 use Rattle.pdw_base.specs.declared.truth.Truth.{Truth}

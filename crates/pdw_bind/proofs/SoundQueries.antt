@@ -24,7 +24,7 @@ use Rattle.pdw_bind.proofs.SoundRelations.{Adds, AggsMade, AggsTyped, Alone, Amo
 use Rattle.pdw_bind.proofs.SoundWhere.{Since, WhereFits, sub_shape, subs_made, where_fits}
 use Rattle.pdw_bind.specs.Sound.{ElementShape, QueryShape, SubqueryShape, element_shape, element_step, from_columns, from_sound, group_columns, group_made, group_sound, items_made, made_by_rows, query_shape, subquery_step, where_sound}
 use Rattle.pdw_bind.specs.Sound as sound
-use Rattle.pdw_bind.specs.Written.{items_written}
+use Rattle.pdw_syntax.specs.Written.{items_written}
 use Rattle.pdw_catalog.specs.Database.{Database}
 use Rattle.pdw_expr.specs.declared.agg.Agg.{Agg}
 use Rattle.pdw_meaning.proofs.ExprMeaningLaws.{expr-means}

@@ -11,7 +11,7 @@ use Rattle.std.specs.Option.{option_map}
 use Rattle.std.proofs.lemmas.Option.{get_or_from_slice_get, slice_get_within}
 use Rattle.pdw_algebra.specs.Schema.{kind_at}
 use Rattle.pdw_algebra.specs.Shape.{column_kind, kind_or_int, scan_column, scan_shape}
-use Rattle.pdw_ast.specs.declared.query.Primary.TheOpen.{Primary-F}
+use Rattle.pdw_syntax.specs.declared.query.Primary.TheOpen.{Primary-F}
 use Rattle.pdw_base.specs.declared.schema.ColId.{ColId}
 use Rattle.pdw_base.specs.declared.value.Kind.{Kind}
 use Rattle.pdw_bind.proofs.Added.{adds-same, among-all}

@@ -10,8 +10,8 @@ use Rattle.pdw_algebra.specs.declared.tree.Tree.{Tree}
 use Rattle.pdw_algebra.specs.declared.tree.Tree.TheOpen.{Tree-F}
 use Rattle.pdw_algebra.specs.declared.tree.Tree.TheFolds.{fold-roll-Tree}
 use Rattle.pdw_algebra.specs.declared.tree.Tree.TheVariants as tree
-use Rattle.pdw_ast.specs.declared.query.JoinWord.{JoinWord}
-use Rattle.pdw_ast.specs.declared.query.JoinWord.TheVariants as word
+use Rattle.pdw_syntax.specs.declared.query.JoinWord.{JoinWord}
+use Rattle.pdw_syntax.specs.declared.query.JoinWord.TheVariants as word
 use Rattle.pdw_base.specs.Schema.{Columns, Env}
 use Rattle.pdw_base.specs.declared.schema.ColId.{ColId}
 use Rattle.pdw_base.specs.declared.value.Value.{Value}

@@ -2,15 +2,15 @@
 use Rattle.std.proofs.Common.{◌≡◌, true, Ok, map, sym, ◌∙◌}
 use Rattle.pdw_algebra.specs.Meaning.{rows_of}
 use Rattle.pdw_algebra.specs.WellFormed.{IsWellFormed}
-use Rattle.pdw_ast.specs.declared.query.Select.{Select}
-use Rattle.pdw_ast.specs.declared.statement.Statement.TheVariants as statement_is
+use Rattle.pdw_syntax.specs.declared.query.Select.{Select}
+use Rattle.pdw_syntax.specs.declared.statement.Statement.TheVariants as statement_is
 use Rattle.pdw_bind.proofs.SoundDerived.{numbered-outs}
 use Rattle.pdw_bind.proofs.SoundInduction.{judged_is_sound}
 use Rattle.pdw_bind.proofs.TreeMeaning.{tree_means}
 use Rattle.pdw_bind.proofs.WellFormedLaws.{sound_is_well_formed}
 use Rattle.pdw_bind.specs.Bind.{bound}
 use Rattle.pdw_bind.specs.Sound.{HaveColumns, IsSound}
-use Rattle.pdw_bind.specs.Written.{query_written}
+use Rattle.pdw_syntax.specs.Written.{query_written}
 use Rattle.pdw_catalog.specs.Database.{Database}
 use Rattle.pdw_expr.specs.Rows.{key_of}
 use Rattle.pdw_meaning.proofs.AcceptedLaw.{accepted, accepted_walk}

@@ -3,8 +3,8 @@ use Rattle.std.specs.Prelude.{◌==◌, Bool, List, [], ◌∷◌, ◌++◌, map
 use Rattle.std.specs.List.{flat_map, list_any}
 use Rattle.pdw_algebra.specs.declared.tree.Tree.{Tree}
 use Rattle.pdw_algebra.specs.declared.tree.Tree.TheVariants as tree
-use Rattle.pdw_ast.specs.declared.query.JoinWord.{JoinWord}
-use Rattle.pdw_ast.specs.declared.query.JoinWord.TheVariants as word
+use Rattle.pdw_syntax.specs.declared.query.JoinWord.{JoinWord}
+use Rattle.pdw_syntax.specs.declared.query.JoinWord.TheVariants as word
 use Rattle.pdw_base.specs.declared.schema.ColId.{ColId}
 use Rattle.pdw_base.specs.declared.truth.Truth.TheVariants as truth
 use Rattle.pdw_expr.specs.declared.agg.JoinKind.{JoinKind}

@@ -5,8 +5,8 @@ use Rattle.std.specs.List.{flat_map, list_all}
 use Rattle.pdw_algebra.specs.Shape.{aggregate_column, all_apart, all_typed, are_apart, has_number, is_empty, item_column, item_kind, key_column, made_by, scan_shape}
 use Rattle.pdw_algebra.specs.Types.{aggregate_kind, same_kinds, scalar_kind}
 use Rattle.pdw_algebra.specs.declared.tree.TheConstants.{MOST_LEAVES}
-use Rattle.pdw_ast.specs.declared.query.JoinWord.{JoinWord}
-use Rattle.pdw_ast.specs.declared.query.JoinWord.TheVariants as word
+use Rattle.pdw_syntax.specs.declared.query.JoinWord.{JoinWord}
+use Rattle.pdw_syntax.specs.declared.query.JoinWord.TheVariants as word
 use Rattle.pdw_base.specs.Schema.{Columns}
 use Rattle.pdw_base.specs.declared.schema.ColId.{ColId}
 use Rattle.pdw_base.specs.declared.value.Kind.{Kind}

@@ -2,26 +2,20 @@
 
 ghost use Rattle.pdw_algebra.specs.Meaning.{rows_of};
 ghost use Rattle.pdw_algebra.specs.WellFormed.{IsWellFormed};
-ghost use Rattle.pdw_ast.specs.Prints.{IsWritten};
-ghost use Rattle.pdw_ast.specs.Texts.{groups, script};
-ghost use Rattle.pdw_ast.specs.declared.query.Select.{Select as Written};
-ghost use Rattle.pdw_ast.specs.declared.statement.Statement.TheVariants as statement;
-ghost use Rattle.pdw_ast.specs.declared.statement.Statement.{Statement as StatementOf};
+ghost use Rattle.pdw_syntax.specs.declared.query.Select.{Select as Written};
+ghost use Rattle.pdw_syntax.specs.declared.statement.Statement.TheVariants as statement;
 ghost use Rattle.pdw_bind.specs.Bind.{bound};
 ghost use Rattle.pdw_bind.specs.Sound.{HaveColumns, IsSound};
-ghost use Rattle.pdw_bind.specs.Written.{query_written, statement_written};
+ghost use Rattle.pdw_syntax.specs.Written.{query_written};
 ghost use Rattle.pdw_catalog.specs.Database.{Database};
 ghost use Rattle.pdw_expr.specs.Rows.{key_of};
-ghost use Rattle.pdw_lex.specs.Lexes.{Lexes};
-ghost use Rattle.pdw_lex.specs.declared.token.Token.{Token as TokenOf};
 ghost use Rattle.pdw_meaning.specs.Answer.{answer};
 ghost use Rattle.pdw_meaning.specs.Numbered.{outs_of};
 ghost use Rattle.pdw_scope.specs.Statements.{judgement};
 ghost use Rattle.pdw_scope.specs.declared.judged.Judged.TheVariants as judged;
 ghost use Rattle.pdw_scope.specs.declared.judged.JudgedQuery.{out-JudgedQuery};
 ghost use Rattle.pdw_scope.specs.declared.judged.JudgedSelect.{JudgedSelect as Numbered};
-ghost use Rattle.std.specs.List.{list_all};
-ghost use Rattle.std.specs.Prelude.{◌≡◌, ℕ, true, List, Ok, map};
+ghost use Rattle.std.specs.Prelude.{◌≡◌, true, Ok, map};
 
 /// The law of the tree: where the judgement gives a SELECT its numbered form, that form is sound, its tree is well-formed
 /// over the tables, and the tree's rows, each read in the order of the items, are the rows of the SELECT, as lists.
@@ -30,11 +24,4 @@ pub fn the_tree_means_its_query()
     ensures sound { (database : Database) (s : Written) (j : Numbered) → HaveColumns database.tables → query_written s.query ≡ true → judgement database.tables (statement.Select s) ≡ Ok (judged.Select j) → IsSound database.tables j.query }
     ensures well_formed { (database : Database) (s : Written) (j : Numbered) → HaveColumns database.tables → query_written s.query ≡ true → judgement database.tables (statement.Select s) ≡ Ok (judged.Select j) → IsWellFormed database.tables (bound j.query) }
     ensures rows { (database : Database) (s : Written) (j : Numbered) → HaveColumns database.tables → query_written s.query ≡ true → judgement database.tables (statement.Select s) ≡ Ok (judged.Select j) → map (key_of (outs_of (out-JudgedQuery j.query).items)) (rows_of database (bound j.query)) ≡ answer database s }
-{}
-
-/// What some text of the grammar means is complete: texts that are not too long, aggregates that have the argument that they
-/// take, at least one element of FROM and one item, and a table with a column. So is each statement of a script.
-pub fn what_is_written_is_complete()
-    ensures statement { (x : StatementOf) → IsWritten x → statement_written x ≡ true }
-    ensures script { (levels : ℕ) (bytes : List ℕ) (tokens : List TokenOf) (xs : List StatementOf) → Lexes 0 bytes tokens → script (groups levels) (map (λ t. t.lexeme) tokens) xs → list_all statement_written xs ≡ true }
 {}

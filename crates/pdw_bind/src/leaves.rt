@@ -5,9 +5,9 @@ ghost use Rattle.pdw_algebra.specs.declared.tree.Tree.TheVariants as tree;
 ghost use Rattle.pdw_bind.specs.Bind as spec;
 
 use pdw_algebra::Tree;
-use pdw_ast::JoinWord;
 use pdw_base::{ColId, NoMemory, Str};
 use pdw_expr::{Cond, JoinKind};
+use pdw_syntax::JoinWord;
 use sqlite_items::{Boxed, Items};
 use std::alloc::Global;
 use std::marker::Model;

@@ -8,5 +8,5 @@ mod leaves;
 mod query;
 mod subqueries;
 
-pub use laws::{the_tree_means_its_query, what_is_written_is_complete};
+pub use laws::the_tree_means_its_query;
 pub use query::bind;

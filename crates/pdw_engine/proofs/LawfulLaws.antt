@@ -2,12 +2,12 @@
 use Rattle.std.proofs.Common.{◌≡◌, ◌∙◌, ℕ, ◌≤◌, Bool, true, false, cond, List, [], ◌∷◌, length, Option, Some, None, Ok, IsPermutation, sym, ap, subst}
 use Rattle.std.specs.Str.{bytes_eq}
 use Rattle.std.proofs.lemmas.Option.{none-some}
-use Rattle.pdw_ast.specs.declared.query.Select.{Select}
-use Rattle.pdw_ast.specs.declared.statement.Statement.{Statement}
-use Rattle.pdw_ast.specs.declared.statement.Statement.TheVariants as s
+use Rattle.pdw_syntax.specs.declared.query.Select.{Select}
+use Rattle.pdw_syntax.specs.declared.statement.Statement.{Statement}
+use Rattle.pdw_syntax.specs.declared.statement.Statement.TheVariants as s
 use Rattle.pdw_bind.proofs.TreeLaw.{tree_rows_are}
 use Rattle.pdw_bind.specs.Sound.{HaveColumns}
-use Rattle.pdw_bind.specs.Written.{query_written, statement_written}
+use Rattle.pdw_syntax.specs.Written.{query_written, statement_written}
 use Rattle.pdw_catalog.specs.Appliance.{Bags, Contents, IsSound, StoresAll}
 use Rattle.pdw_catalog.specs.Catalog.{Tables, table_named}
 use Rattle.pdw_catalog.specs.Database.{undivided}

@@ -1,8 +1,8 @@
 -- What preparing a statement gives: what the statement does, or why it is refused.
 use Rattle.std.specs.Prelude.{◌≡◌, ◌≢◌, ⊤, ℕ, Bool, true, false, List, Option, Some, None, Ok, Err}
-use Rattle.pdw_ast.specs.declared.statement.Statement.{Statement}
-use Rattle.pdw_ast.specs.declared.statement.Statement.TheVariants as s
-use Rattle.pdw_bind.specs.Written.{statement_written}
+use Rattle.pdw_syntax.specs.declared.statement.Statement.{Statement}
+use Rattle.pdw_syntax.specs.declared.statement.Statement.TheVariants as s
+use Rattle.pdw_syntax.specs.Written.{statement_written}
 use Rattle.pdw_catalog.specs.Catalog.{Tables}
 use Rattle.pdw_engine.specs.declared.refusal.Refusal.{Refusal}
 use Rattle.pdw_engine.specs.declared.refusal.Refusal.TheVariants as refusal

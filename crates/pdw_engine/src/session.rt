@@ -2,11 +2,11 @@
 
 ghost use Rattle.std.specs.Prelude.{◌≡◌, true, Ok, IfOk, IfErr, OnErr, OnOk};
 ghost use Rattle.std.specs.Option.{option_copied};
-ghost use Rattle.pdw_ast.specs.declared.query.Select.{Select as SelectOf};
-ghost use Rattle.pdw_ast.specs.declared.statement.Statement.TheVariants as statements;
-ghost use Rattle.pdw_ast.specs.declared.statement.Statement.{Statement as StatementOf};
+ghost use Rattle.pdw_syntax.specs.declared.query.Select.{Select as SelectOf};
+ghost use Rattle.pdw_syntax.specs.declared.statement.Statement.TheVariants as statements;
+ghost use Rattle.pdw_syntax.specs.declared.statement.Statement.{Statement as StatementOf};
 ghost use Rattle.pdw_bind.specs.Sound.{HaveColumns};
-ghost use Rattle.pdw_bind.specs.Written.{query_written, statement_written};
+ghost use Rattle.pdw_syntax.specs.Written.{query_written, statement_written};
 ghost use Rattle.pdw_catalog.specs.Appliance.{CanCreate, HasTable, empty_of};
 ghost use Rattle.pdw_engine.specs.Executes.{Gives, IsGiven, LoadsContent, Selects, StopsLoad, StopsWork};
 ghost use Rattle.pdw_engine.specs.Plain.{SamePlain, plain_of, with_table, without_table};
@@ -20,11 +20,11 @@ use crate::answer::Answer;
 use crate::prepared::{Prepared, with_want};
 use crate::refusal::{Refusal, Stop};
 use crate::select::select;
-use pdw_ast::Statement;
 use pdw_base::{NoMemory, NodeCount, Str};
 use pdw_catalog::{Appliance, Table};
 use pdw_load::{LoadError, read_table};
 use pdw_scope::{JudgeFault, Judged, JudgedSelect, judge};
+use pdw_syntax::Statement;
 use std::alloc::Global;
 use std::marker::Model;
 

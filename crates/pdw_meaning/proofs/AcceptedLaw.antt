@@ -1,8 +1,8 @@
 -- The law of names and numbers, of the statements that the judgement accepts.
 use Rattle.std.proofs.Common.{◌≡◌, Result, Ok, Err, ap, map, subst}
 use Rattle.std.specs.Bool.{⊤}
-use Rattle.pdw_ast.specs.declared.query.Select.{Select}
-use Rattle.pdw_ast.specs.declared.statement.Statement.TheVariants as statement_is
+use Rattle.pdw_syntax.specs.declared.query.Select.{Select}
+use Rattle.pdw_syntax.specs.declared.statement.Statement.TheVariants as statement_is
 use Rattle.pdw_catalog.specs.Database.{Database}
 use Rattle.pdw_meaning.proofs.NamesLaw.{names_law}
 use Rattle.pdw_meaning.proofs.SelectNames.{select_names, select_order}

@@ -1,11 +1,11 @@
 -- The value of a chain, and of an aggregate.
 use Rattle.std.proofs.Common.{◌≡◌, List, [], ◌∷◌, fold, map, Option, Some, None, refl, sym, ap, ◌∙◌}
 use Rattle.std.specs.Option.{option_map}
-use Rattle.pdw_ast.specs.declared.expr.SqlExpr.{SqlExpr}
-use Rattle.pdw_ast.specs.declared.expr.SqlExpr.TheOpen.{SqlExpr-F}
-use Rattle.pdw_ast.specs.declared.expr.SqlExpr.TheFolds.{fold-roll-SqlExpr}
-use Rattle.pdw_ast.specs.declared.expr.SqlExpr.TheVariants as is
-use Rattle.pdw_ast.specs.declared.expr.SqlExpr.TheVariants.{rolls-Agg, rolls-Chain}
+use Rattle.pdw_syntax.specs.declared.expr.SqlExpr.{SqlExpr}
+use Rattle.pdw_syntax.specs.declared.expr.SqlExpr.TheOpen.{SqlExpr-F}
+use Rattle.pdw_syntax.specs.declared.expr.SqlExpr.TheFolds.{fold-roll-SqlExpr}
+use Rattle.pdw_syntax.specs.declared.expr.SqlExpr.TheVariants as is
+use Rattle.pdw_syntax.specs.declared.expr.SqlExpr.TheVariants.{rolls-Agg, rolls-Chain}
 use Rattle.pdw_base.specs.declared.value.Value.{Value}
 use Rattle.pdw_expr.specs.Aggregate.{aggregated}
 use Rattle.pdw_expr.specs.Arithmetic.{computed}

@@ -1,11 +1,11 @@
 -- Value expressions: what the walk makes of one has the value that the names give it.
 use Rattle.std.proofs.Common.{◌≡◌, ℕ, ◌<◌, Bool, true, false, true≢false, not, List, [], ◌∷◌, ◌++◌, length, map, fold, Option, Some, None, is_none, position, refl, sym, ap, ap₂, subst, ◌∙◌, le_refl, length-append, arith}
 use Rattle.std.specs.List.{AllByRecursion, list_all}
-use Rattle.pdw_ast.specs.declared.expr.ColRef.{ColRef}
-use Rattle.pdw_ast.specs.declared.expr.SqlExpr.{SqlExpr}
-use Rattle.pdw_ast.specs.declared.expr.SqlExpr.TheOpen.{SqlExpr-F}
-use Rattle.pdw_ast.specs.declared.expr.SqlExpr.TheViews.{roll-SqlExpr}
-use Rattle.pdw_ast.specs.declared.expr.SqlExpr.TheFolds.{fold-roll-SqlExpr, ind-SqlExpr, map-SqlExpr}
+use Rattle.pdw_syntax.specs.declared.expr.ColRef.{ColRef}
+use Rattle.pdw_syntax.specs.declared.expr.SqlExpr.{SqlExpr}
+use Rattle.pdw_syntax.specs.declared.expr.SqlExpr.TheOpen.{SqlExpr-F}
+use Rattle.pdw_syntax.specs.declared.expr.SqlExpr.TheViews.{roll-SqlExpr}
+use Rattle.pdw_syntax.specs.declared.expr.SqlExpr.TheFolds.{fold-roll-SqlExpr, ind-SqlExpr, map-SqlExpr}
 use Rattle.pdw_base.specs.Schema.{Env}
 use Rattle.pdw_base.specs.declared.schema.ColId.{ColId}
 use Rattle.pdw_base.specs.declared.value.Kind.{Kind}

@@ -1,7 +1,7 @@
 -- The elements of FROM, one lemma for each layer: from what its parts mean to what it means.
 use Rattle.std.proofs.Common.{◌≡◌, ℕ, List, fold, Option, subst₂}
-use Rattle.pdw_ast.specs.declared.query.JoinWord.{JoinWord}
-use Rattle.pdw_ast.specs.declared.query.Primary.TheOpen.{Primary-F}
+use Rattle.pdw_syntax.specs.declared.query.JoinWord.{JoinWord}
+use Rattle.pdw_syntax.specs.declared.query.Primary.TheOpen.{Primary-F}
 use Rattle.pdw_base.specs.declared.truth.Truth.{Truth}
 use Rattle.pdw_catalog.specs.Database.{Database}
 use Rattle.pdw_meaning.proofs.DerivedMeaningLaws.{derived_means}

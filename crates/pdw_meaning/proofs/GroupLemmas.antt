@@ -1,6 +1,6 @@
 -- The groups of a query by their rows alone.
 use Rattle.std.proofs.Common.{◌≡◌, ◌==◌, false, List, [], ◌∷◌, length, map, refl, ap}
-use Rattle.pdw_ast.specs.declared.expr.ColRef.{ColRef}
+use Rattle.pdw_syntax.specs.declared.expr.ColRef.{ColRef}
 use Rattle.pdw_base.specs.declared.value.Value.{Value}
 use Rattle.pdw_expr.specs.Parts.{groups, parts}
 use Rattle.pdw_meaning.specs.Environment.{Scope, alone, group_of}

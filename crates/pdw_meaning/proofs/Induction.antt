@@ -1,16 +1,16 @@
 -- The induction over queries and what stands in them: each part's walk and meaning agree.
 use Rattle.std.proofs.Common.{◌≡◌, List, [], ◌∷◌, map, Option, Some, None, refl, sym, ap, subst, subst₂, ◌∙◌, arith}
-use Rattle.pdw_ast.specs.declared.query.Primary.{Primary}
-use Rattle.pdw_ast.specs.declared.query.Primary.TheViews.{roll-Primary, roll-SqlCond}
-use Rattle.pdw_ast.specs.declared.query.SqlCond.{SqlCond}
-use Rattle.pdw_ast.specs.declared.query.JoinPart.{JoinPart, roll-JoinPart}
-use Rattle.pdw_ast.specs.declared.query.Query.{Query, roll-Query}
-use Rattle.pdw_ast.specs.declared.query.TableRef.{TableRef, roll-TableRef}
-use Rattle.pdw_ast.specs.declared.expr.SqlExpr.{SqlExpr}
-use Rattle.pdw_ast.specs.declared.query.Primary.TheOpen.{Primary-F, SqlCond-F, JoinPart-F, Query-F, TableRef-F}
-use Rattle.pdw_ast.specs.declared.query.Primary.TheFolds.{fold-Primary, fold-SqlCond, fold-JoinPart, fold-Query, fold-TableRef, fold-roll-Primary, fold-roll-SqlCond, fold-roll-JoinPart, fold-roll-Query, fold-roll-TableRef, ind-Query, map-SqlCond, map-Primary, map-JoinPart, map-TableRef, map-Query}
+use Rattle.pdw_syntax.specs.declared.query.Primary.{Primary}
+use Rattle.pdw_syntax.specs.declared.query.Primary.TheViews.{roll-Primary, roll-SqlCond}
+use Rattle.pdw_syntax.specs.declared.query.SqlCond.{SqlCond}
+use Rattle.pdw_syntax.specs.declared.query.JoinPart.{JoinPart, roll-JoinPart}
+use Rattle.pdw_syntax.specs.declared.query.Query.{Query, roll-Query}
+use Rattle.pdw_syntax.specs.declared.query.TableRef.{TableRef, roll-TableRef}
+use Rattle.pdw_syntax.specs.declared.expr.SqlExpr.{SqlExpr}
+use Rattle.pdw_syntax.specs.declared.query.Primary.TheOpen.{Primary-F, SqlCond-F, JoinPart-F, Query-F, TableRef-F}
+use Rattle.pdw_syntax.specs.declared.query.Primary.TheFolds.{fold-Primary, fold-SqlCond, fold-JoinPart, fold-Query, fold-TableRef, fold-roll-Primary, fold-roll-SqlCond, fold-roll-JoinPart, fold-roll-Query, fold-roll-TableRef, ind-Query, map-SqlCond, map-Primary, map-JoinPart, map-TableRef, map-Query}
 use Rattle.std.proofs.lemmas.Option.{none-some}
-use Rattle.pdw_ast.specs.declared.query.Select.{Select}
+use Rattle.pdw_syntax.specs.declared.query.Select.{Select}
 use Rattle.pdw_base.specs.declared.truth.Truth.{Truth}
 use Rattle.pdw_catalog.specs.Database.{Database}
 use Rattle.pdw_expr.specs.Env.{nulls}

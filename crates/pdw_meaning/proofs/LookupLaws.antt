@@ -1,6 +1,6 @@
 -- Column references: the column that the walk meets has the value that the names mean.
 use Rattle.std.proofs.Common.{◌≡◌, ℕ, Bool, true, false, not, cond, ◌&&◌, List, [], ◌∷◌, ◌++◌, filter, Option, Some, None, position, refl, sym, ap, ap₂, subst, ◌∙◌, bytes_eq}
-use Rattle.pdw_ast.specs.declared.expr.ColRef.{ColRef}
+use Rattle.pdw_syntax.specs.declared.expr.ColRef.{ColRef}
 use Rattle.pdw_base.specs.Schema.{Env}
 use Rattle.pdw_base.specs.declared.schema.ColId.{ColId}
 use Rattle.pdw_base.specs.declared.value.Value.{Value}

@@ -1,6 +1,6 @@
 -- The law of names and numbers: a SELECT means by names what its judged form means by numbers.
 use Rattle.std.proofs.Common.{◌≡◌}
-use Rattle.pdw_ast.specs.declared.query.Select.{Select}
+use Rattle.pdw_syntax.specs.declared.query.Select.{Select}
 use Rattle.pdw_catalog.specs.Database.{Database}
 use Rattle.pdw_meaning.proofs.ExprMeaningLaws.{expr-means}
 use Rattle.pdw_meaning.proofs.Induction.{select_means}

@@ -3,9 +3,9 @@ use Rattle.std.proofs.Common.{◌≡◌, ℕ, ℤ, zero, suc, ◌+◌, ◌-◌, 
 use Rattle.std.specs.Fmt.{signed_decimal}
 use Rattle.std.specs.List.{enumerate_from, filter}
 use Rattle.std.specs.Str.{bytes_eq}
-use Rattle.pdw_ast.specs.declared.query.OrderKey.{OrderKey}
-use Rattle.pdw_ast.specs.declared.query.OrderName.{OrderName}
-use Rattle.pdw_ast.specs.declared.query.OrderName.TheVariants.{Name, Position}
+use Rattle.pdw_syntax.specs.declared.query.OrderKey.{OrderKey}
+use Rattle.pdw_syntax.specs.declared.query.OrderName.{OrderName}
+use Rattle.pdw_syntax.specs.declared.query.OrderName.TheVariants.{Name, Position}
 use Rattle.pdw_meaning.proofs.Outcomes.{done_value, in_turn, refused_not_done}
 use Rattle.pdw_meaning.proofs.WalkLaws.{position-is}
 use Rattle.pdw_meaning.specs.Answer.{order_of, place_of, place_or_first}

@@ -1,11 +1,11 @@
 -- The output names and the order keys of a judged SELECT are those of its meaning by names.
 use Rattle.std.proofs.Common.{◌≡◌, ℕ, ◌+◌, Bool, true, false, if◌then◌else◌, List, [], ◌∷◌, ◌++◌, length, map, Option, Some, None, refl, sym, ap, subst, ◌∙◌, codes}
 use Rattle.std.specs.Str.{bytes_eq}
-use Rattle.pdw_ast.specs.declared.expr.SqlExpr.{SqlExpr}
-use Rattle.pdw_ast.specs.declared.query.Item.{Item}
-use Rattle.pdw_ast.specs.declared.query.Item.TheVariants as item
-use Rattle.pdw_ast.specs.declared.query.Items.{Items}
-use Rattle.pdw_ast.specs.declared.query.Items.TheVariants.{Star, List as Listed}
+use Rattle.pdw_syntax.specs.declared.expr.SqlExpr.{SqlExpr}
+use Rattle.pdw_syntax.specs.declared.query.Item.{Item}
+use Rattle.pdw_syntax.specs.declared.query.Item.TheVariants as item
+use Rattle.pdw_syntax.specs.declared.query.Items.{Items}
+use Rattle.pdw_syntax.specs.declared.query.Items.TheVariants.{Star, List as Listed}
 use Rattle.pdw_expr.specs.declared.scalar.Scalar.{Scalar}
 use Rattle.pdw_base.specs.declared.value.Kind.{Kind}
 use Rattle.pdw_meaning.proofs.Outcomes.{done_value, in_turn, refused_not_done}

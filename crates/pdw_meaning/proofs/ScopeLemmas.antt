@@ -1,7 +1,7 @@
 -- Rows with names, and what a reference means in them.
 use Rattle.std.proofs.Common.{◌≡◌, Bool, true, false, List, [], ◌∷◌, ◌++◌, length, get_or, filter, cond, Option, Some, None, refl, ap}
 use Rattle.std.specs.List.{find}
-use Rattle.pdw_ast.specs.declared.expr.ColRef.{ColRef}
+use Rattle.pdw_syntax.specs.declared.expr.ColRef.{ColRef}
 use Rattle.pdw_base.specs.declared.value.Value.{Value}
 use Rattle.pdw_base.specs.declared.value.Value.TheVariants.{Null}
 use Rattle.pdw_meaning.specs.Environment.{Scope, first_value, fits, labelled, labelled_one, looked_up}

@@ -1,13 +1,13 @@
 -- The output names and the order of a judged SELECT are those of its meaning by names.
 use Rattle.std.proofs.Common.{◌≡◌, ◌≢◌, ℕ, Bool, List, [], map, sym, ap, subst, ◌∙◌, arith}
-use Rattle.pdw_ast.specs.declared.query.Primary.TheFolds.{fold-roll-Query, map-Query}
-use Rattle.pdw_ast.specs.declared.query.Primary.TheViews.{roll-out-Query}
-use Rattle.pdw_ast.specs.declared.query.Primary.{Primary}
-use Rattle.pdw_ast.specs.declared.query.SqlCond.{SqlCond}
-use Rattle.pdw_ast.specs.declared.query.JoinPart.{JoinPart}
-use Rattle.pdw_ast.specs.declared.query.TableRef.{TableRef}
-use Rattle.pdw_ast.specs.declared.query.Query.{Query, out-Query}
-use Rattle.pdw_ast.specs.declared.query.Select.{Select}
+use Rattle.pdw_syntax.specs.declared.query.Primary.TheFolds.{fold-roll-Query, map-Query}
+use Rattle.pdw_syntax.specs.declared.query.Primary.TheViews.{roll-out-Query}
+use Rattle.pdw_syntax.specs.declared.query.Primary.{Primary}
+use Rattle.pdw_syntax.specs.declared.query.SqlCond.{SqlCond}
+use Rattle.pdw_syntax.specs.declared.query.JoinPart.{JoinPart}
+use Rattle.pdw_syntax.specs.declared.query.TableRef.{TableRef}
+use Rattle.pdw_syntax.specs.declared.query.Query.{Query, out-Query}
+use Rattle.pdw_syntax.specs.declared.query.Select.{Select}
 use Rattle.pdw_meaning.proofs.OrderKeys.{keys_are}
 use Rattle.pdw_meaning.proofs.OutputNames.{column_names, item_names, items_named}
 use Rattle.pdw_catalog.specs.Catalog.{Tables}

@@ -5,10 +5,10 @@ use Rattle.std.specs.Ordering.{ordering_then}
 use Rattle.std.specs.Str.{bytes_eq}
 use Rattle.std.specs.declared.cmp.Ordering.{Ordering}
 use Rattle.std.specs.declared.cmp.Ordering.TheVariants.{Less, Equal}
-use Rattle.pdw_ast.specs.declared.query.OrderKey.{OrderKey}
-use Rattle.pdw_ast.specs.declared.query.OrderName.{OrderName}
-use Rattle.pdw_ast.specs.declared.query.OrderName.TheVariants.{Name, Position}
-use Rattle.pdw_ast.specs.declared.query.Select.{Select}
+use Rattle.pdw_syntax.specs.declared.query.OrderKey.{OrderKey}
+use Rattle.pdw_syntax.specs.declared.query.OrderName.{OrderName}
+use Rattle.pdw_syntax.specs.declared.query.OrderName.TheVariants.{Name, Position}
+use Rattle.pdw_syntax.specs.declared.query.Select.{Select}
 use Rattle.pdw_base.specs.Comparison.{value_cmp}
 use Rattle.pdw_base.specs.declared.value.Value.{Value}
 use Rattle.pdw_catalog.specs.Database.{Database}

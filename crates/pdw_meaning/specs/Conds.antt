@@ -1,6 +1,6 @@
 -- The truth of a search condition (SQL-92, 8.2 to 8.12) over a row or a group.
 use Rattle.std.specs.Prelude.{ℕ, Bool, true, false, List, [], ◌∷◌, map, Option, Some, None, if◌then◌else◌}
-use Rattle.pdw_ast.specs.declared.query.Primary.TheOpen.{SqlCond-F}
+use Rattle.pdw_syntax.specs.declared.query.Primary.TheOpen.{SqlCond-F}
 use Rattle.pdw_base.specs.declared.truth.Truth.{Truth}
 use Rattle.pdw_base.specs.declared.truth.Truth.TheVariants.{True}
 use Rattle.pdw_base.specs.declared.value.Value.{Value}

@@ -2,7 +2,7 @@
 use Rattle.std.specs.Prelude.{ℕ, ◌&&◌, Bool, true, List, [], ◌∷◌, map, Option, Some, None}
 use Rattle.std.specs.List.{filter}
 use Rattle.std.specs.Str.{bytes_eq}
-use Rattle.pdw_ast.specs.declared.expr.ColRef.{ColRef}
+use Rattle.pdw_syntax.specs.declared.expr.ColRef.{ColRef}
 use Rattle.pdw_base.specs.declared.value.Value.{Value}
 use Rattle.pdw_base.specs.declared.value.Value.TheVariants.{Null}
 use Rattle.pdw_meaning.specs.declared.scope.Cell.{Cell}

@@ -1,8 +1,8 @@
 -- What the numbered form of a query means: rows that give each column number a value. No name of a column occurs here.
 use Rattle.std.specs.Prelude.{Bool, List, [], map, Option, Some, None, if◌then◌else◌}
 use Rattle.std.specs.List.{filter, list_all}
-use Rattle.pdw_ast.specs.declared.query.JoinWord.{JoinWord}
-use Rattle.pdw_ast.specs.declared.query.JoinWord.TheVariants as word
+use Rattle.pdw_syntax.specs.declared.query.JoinWord.{JoinWord}
+use Rattle.pdw_syntax.specs.declared.query.JoinWord.TheVariants as word
 use Rattle.pdw_base.specs.Schema.{Env}
 use Rattle.pdw_base.specs.declared.schema.ColId.{ColId}
 use Rattle.pdw_base.specs.declared.truth.Truth.{Truth}

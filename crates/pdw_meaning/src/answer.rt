@@ -5,9 +5,9 @@ ghost use Rattle.pdw_catalog.specs.Database.{undivided};
 ghost use Rattle.pdw_meaning.specs.Answer.{answer};
 
 use crate::queries::answer_of;
-use pdw_ast::Select;
 use pdw_base::{Bag, NoMemory, Row};
 use pdw_catalog::Appliance;
+use pdw_syntax::Select;
 use std::alloc::Global;
 
 fn bag_of(alloc: Global, rows: &[Row]) -> Result<Bag, NoMemory>

@@ -7,8 +7,8 @@ ghost use Rattle.pdw_meaning.specs.Environment as spec;
 ghost use Rattle.pdw_meaning.specs.Environment.{environment, group_of};
 
 use crate::scope::{Cell, Scope, scopes_from};
-use pdw_ast::ColRef;
 use pdw_base::{NoMemory, Str, Value};
+use pdw_syntax::ColRef;
 use sqlite_items::Items as ListOf;
 use std::alloc::Global;
 

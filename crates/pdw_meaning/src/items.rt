@@ -9,9 +9,9 @@ ghost use Rattle.pdw_meaning.specs.Queries as spec;
 use crate::environment::first_row;
 use crate::exprs::value_of;
 use crate::scope::{Cell, Label, Scope};
-use pdw_ast::{Item, Items};
 use pdw_base::{NoMemory, Row, Str, Value};
 use pdw_scope::item_name;
+use pdw_syntax::{Item, Items};
 use sqlite_items::Items as ListOf;
 use std::alloc::Global;
 

@@ -1,6 +1,6 @@
 ghost use Rattle.std.specs.Prelude.{◌≡◌, Ok, map};
-ghost use Rattle.pdw_ast.specs.declared.query.Select.{Select as Written};
-ghost use Rattle.pdw_ast.specs.declared.statement.Statement.TheVariants as statement;
+ghost use Rattle.pdw_syntax.specs.declared.query.Select.{Select as Written};
+ghost use Rattle.pdw_syntax.specs.declared.statement.Statement.TheVariants as statement;
 ghost use Rattle.pdw_catalog.specs.Database.{Database};
 ghost use Rattle.pdw_meaning.specs.Answer.{answer, order_of};
 ghost use Rattle.pdw_meaning.specs.Numbered.{numbered_answer};

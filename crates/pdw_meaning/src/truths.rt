@@ -10,9 +10,9 @@ ghost use Rattle.pdw_meaning.specs.Exprs as exprs;
 
 use crate::exprs::value_of;
 use crate::scope::Scope;
-use pdw_ast::SqlExpr;
 use pdw_base::{NoMemory, Row, Truth, Value};
 use pdw_expr::{Cmp, and, compared_by, is, is_like, is_null, not, or, truth_from};
+use pdw_syntax::SqlExpr;
 use sqlite_items::Items as ListOf;
 use std::alloc::Global;
 

@@ -3,8 +3,8 @@ use Rattle.std.proofs.Common.{◌≡◌, ℕ, zero, suc, ◌+◌, ◌-◌, ◌�
 use Rattle.pdw_lex.specs.declared.sign.Sign.TheVariants.{ParenOpen, ParenClose}
 use Rattle.pdw_lex.specs.declared.token.Lexeme.{Lexeme}
 use Rattle.pdw_lex.specs.declared.token.Lexeme.TheVariants.{Sign}
-use Rattle.pdw_ast.specs.Rule.{Empty, empty, One, one, Then, both, Either, first, second, Maybe, absent, present, Many, none, more, Enclosed, enclosed as parenthesized}
-use Rattle.pdw_ast.specs.Lexemes.{is_sign, same_sign}
+use Rattle.pdw_syntax.specs.Rule.{Empty, empty, One, one, Then, both, Either, first, second, Maybe, absent, present, Many, none, more, Enclosed, enclosed as parenthesized}
+use Rattle.pdw_syntax.specs.Lexemes.{is_sign, same_sign}
 use Rattle.pdw_parse.specs.Reading.{Outcome, read, stopped, and_then, next, take, take_if, taken, taken_if, eat, meaning_of, turn, many_from, many, begun, begun_by, enclosed, closed}
 use Rattle.pdw_parse.proofs.Law.{Balanced, Within, Begins, Tells, TellsRead, TellsSyntax, TellsTooDeep, Above, Lawful, LawfulStep, LawfulAt, Inhabited, open_from}
 use Rattle.pdw_parse.proofs.Rules.{then_map, either_map}

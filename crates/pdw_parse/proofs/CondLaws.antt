@@ -6,15 +6,15 @@ use Rattle.pdw_lex.specs.declared.keyword.Keyword.TheVariants.{KwAnd, KwExists, 
 use Rattle.pdw_lex.specs.declared.sign.Sign.TheVariants.{ParenClose}
 use Rattle.pdw_lex.specs.declared.token.Lexeme.{Lexeme}
 use Rattle.pdw_lex.specs.declared.token.Lexeme.TheVariants.{Key, Sign}
-use Rattle.pdw_ast.specs.Rule.{Rule, ◌>>=◌, ◌>>◌, ◌<$>◌, ◌or◌, pure, Empty, empty, One, Then, both, Either, first, second, Maybe, Many, Enclosed}
-use Rattle.pdw_ast.specs.Lexemes.{is_key, key, same_keyword, truth_of}
-use Rattle.pdw_ast.specs.Groups.{Groups}
-use Rattle.pdw_ast.specs.Exprs.{expr as expr_rule}
-use Rattle.pdw_ast.specs.Conds as rule
-use Rattle.pdw_ast.specs.Conds.{negation, negated_by, tested, all_of, any_of}
-use Rattle.pdw_ast.specs.declared.expr.SqlExpr.{SqlExpr}
-use Rattle.pdw_ast.specs.declared.query.SqlCond.{SqlCond}
-use Rattle.pdw_ast.specs.declared.query.SqlCond.TheVariants as c
+use Rattle.pdw_syntax.specs.Rule.{Rule, ◌>>=◌, ◌>>◌, ◌<$>◌, ◌or◌, pure, Empty, empty, One, Then, both, Either, first, second, Maybe, Many, Enclosed}
+use Rattle.pdw_syntax.specs.Lexemes.{is_key, key, same_keyword, truth_of}
+use Rattle.pdw_syntax.specs.Groups.{Groups}
+use Rattle.pdw_syntax.specs.Exprs.{expr as expr_rule}
+use Rattle.pdw_syntax.specs.Conds as rule
+use Rattle.pdw_syntax.specs.Conds.{negation, negated_by, tested, all_of, any_of}
+use Rattle.pdw_syntax.specs.declared.expr.SqlExpr.{SqlExpr}
+use Rattle.pdw_syntax.specs.declared.query.SqlCond.{SqlCond}
+use Rattle.pdw_syntax.specs.declared.query.SqlCond.TheVariants as c
 use Rattle.pdw_parse.specs.Reading.{and_then, next, meaning_of}
 use Rattle.pdw_parse.specs.ReadExprs.{Nested}
 use Rattle.pdw_parse.specs.ReadConds.{truth_test, test_from, factor, term_from, term, cond_from, cond, condition_from, goes_on, predicate_from, predicate_or, started, operand_from, operand_by, operand}

@@ -4,13 +4,13 @@ use Rattle.pdw_lex.specs.declared.keyword.Keyword.TheVariants.{KwCount, KwMax, K
 use Rattle.pdw_lex.specs.declared.sign.Sign.TheVariants.{ParenOpen, Dot, Star, Slash, Percent, Plus, Minus}
 use Rattle.pdw_lex.specs.declared.token.Lexeme.{Lexeme}
 use Rattle.pdw_lex.specs.declared.token.Lexeme.TheVariants as lexeme
-use Rattle.pdw_ast.specs.Rule.{Empty, One, Then, both, Either, first, second}
-use Rattle.pdw_ast.specs.Lexemes.{is_sign, name_of, minus_of, aggregate_of, term_operator_of, factor_operator_of, name}
-use Rattle.pdw_ast.specs.Groups.{Groups}
-use Rattle.pdw_ast.specs.Exprs as rule
-use Rattle.pdw_ast.specs.declared.expr.ColRef.{ColRef}
-use Rattle.pdw_ast.specs.declared.expr.SqlExpr.{SqlExpr}
-use Rattle.pdw_ast.specs.declared.expr.SqlExpr.TheVariants.{Col}
+use Rattle.pdw_syntax.specs.Rule.{Empty, One, Then, both, Either, first, second}
+use Rattle.pdw_syntax.specs.Lexemes.{is_sign, name_of, minus_of, aggregate_of, term_operator_of, factor_operator_of, name}
+use Rattle.pdw_syntax.specs.Groups.{Groups}
+use Rattle.pdw_syntax.specs.Exprs as rule
+use Rattle.pdw_syntax.specs.declared.expr.ColRef.{ColRef}
+use Rattle.pdw_syntax.specs.declared.expr.SqlExpr.{SqlExpr}
+use Rattle.pdw_syntax.specs.declared.expr.SqlExpr.TheVariants.{Col}
 use Rattle.pdw_parse.specs.Reading.{next}
 use Rattle.pdw_parse.proofs.Closure.{always}
 use Rattle.pdw_parse.proofs.Rules.{made, then_map, either_map, then_assoc, then_assoc_back, maybe_then, maybe_then_back, then_either, then_either_back, then_empty}

@@ -7,14 +7,14 @@ use Rattle.pdw_lex.specs.declared.keyword.Keyword.TheVariants.{KwCount, KwSum, K
 use Rattle.pdw_lex.specs.declared.sign.Sign.TheVariants.{Dot, Comma, Star, Slash, Percent, Plus, Minus, ParenOpen, ParenClose}
 use Rattle.pdw_lex.specs.declared.token.Lexeme.{Lexeme}
 use Rattle.pdw_lex.specs.declared.token.Lexeme.TheVariants.{Key, Name, Number, Sign, Text}
-use Rattle.pdw_ast.specs.Rule.{Rule, ◌>>=◌, ◌>>◌, ◌<$>◌, ◌or◌, pure, Empty, One, one, Then, both, Either, first, second, Many, Enclosed, enclosed}
-use Rattle.pdw_ast.specs.Lexemes.{is_key, is_sign, same_keyword, same_sign, sign, key, name, number, text, name_of, number_of, text_of, minus_of, aggregate_of, term_operator_of, factor_operator_of}
-use Rattle.pdw_ast.specs.Groups.{Groups}
-use Rattle.pdw_ast.specs.Exprs as rule
-use Rattle.pdw_ast.specs.Exprs.{chained, operation, with_sign}
-use Rattle.pdw_ast.specs.declared.expr.ColRef.{ColRef}
-use Rattle.pdw_ast.specs.declared.expr.SqlExpr.{SqlExpr}
-use Rattle.pdw_ast.specs.declared.expr.SqlExpr.TheVariants as e
+use Rattle.pdw_syntax.specs.Rule.{Rule, ◌>>=◌, ◌>>◌, ◌<$>◌, ◌or◌, pure, Empty, One, one, Then, both, Either, first, second, Many, Enclosed, enclosed}
+use Rattle.pdw_syntax.specs.Lexemes.{is_key, is_sign, same_keyword, same_sign, sign, key, name, number, text, name_of, number_of, text_of, minus_of, aggregate_of, term_operator_of, factor_operator_of}
+use Rattle.pdw_syntax.specs.Groups.{Groups}
+use Rattle.pdw_syntax.specs.Exprs as rule
+use Rattle.pdw_syntax.specs.Exprs.{chained, operation, with_sign}
+use Rattle.pdw_syntax.specs.declared.expr.ColRef.{ColRef}
+use Rattle.pdw_syntax.specs.declared.expr.SqlExpr.{SqlExpr}
+use Rattle.pdw_syntax.specs.declared.expr.SqlExpr.TheVariants as e
 use Rattle.pdw_parse.specs.Reading.{Outcome, read, and_then, next, take, meaning_of, many}
 use Rattle.pdw_parse.specs.ReadExprs.{Nested, listed, column_reference, column_from, column_after, aggregate, aggregate_by, count_of, value, value_by, signed, product_from, product, sum_from, expr, expr_from, counted, counted_by, operations, after_comma}
 use Rattle.pdw_parse.proofs.Law.{Lawful, LawfulStep}

@@ -7,8 +7,8 @@ use Rattle.pdw_lex.specs.declared.sign.Sign.TheVariants.{ParenOpen}
 use Rattle.pdw_lex.specs.declared.token.Lexeme.{Lexeme}
 use Rattle.pdw_lex.specs.declared.token.Lexeme.TheVariants.{Sign}
 use Rattle.pdw_lex.specs.declared.token.Token.{Token}
-use Rattle.pdw_ast.specs.Texts.{IsText}
-use Rattle.pdw_ast.specs.declared.statement.Statement.{Statement}
+use Rattle.pdw_syntax.specs.Texts.{IsText}
+use Rattle.pdw_syntax.specs.declared.statement.Statement.{Statement}
 use Rattle.pdw_parse.specs.Depth.{IsShallow, open_after, open_past}
 use Rattle.pdw_parse.specs.Fault.{Begins, IsSyntaxFault, IsDepthFault, IsFault, StandsAt, begins_at}
 use Rattle.pdw_parse.specs.Levels.{nested}

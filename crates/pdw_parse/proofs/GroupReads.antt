@@ -2,7 +2,7 @@
 use Rattle.std.proofs.Common.{◌≡◌, ℕ, zero, suc, ◌-◌, ◌<◌, Bool, true, false, List, drop, Option, Some, None, is_some, if◌then◌else◌, refl, ◌∙◌, ap, arith}
 use Rattle.pdw_lex.specs.declared.sign.Sign.TheVariants.{ParenOpen, ParenClose}
 use Rattle.pdw_lex.specs.declared.token.Lexeme.{Lexeme}
-use Rattle.pdw_ast.specs.Lexemes.{is_sign}
+use Rattle.pdw_syntax.specs.Lexemes.{is_sign}
 use Rattle.pdw_parse.specs.declared.content.Content.{Content}
 use Rattle.pdw_parse.specs.declared.content.Content.TheVariants as content
 use Rattle.pdw_parse.specs.declared.content.Wanted.{Wanted}

@@ -3,7 +3,7 @@ use Rattle.std.proofs.Common.{◌≡◌, ℕ, ◌+◌, ◌≤◌, Bool, true, fa
 use Rattle.pdw_lex.specs.declared.sign.Sign.TheVariants.{ParenOpen}
 use Rattle.pdw_lex.specs.declared.token.Lexeme.{Lexeme}
 use Rattle.pdw_lex.specs.declared.token.Lexeme.TheVariants.{Sign}
-use Rattle.pdw_ast.specs.Rule.{Rule, Maybe}
+use Rattle.pdw_syntax.specs.Rule.{Rule, Maybe}
 use Rattle.pdw_parse.specs.Depth.{open_past}
 use Rattle.pdw_parse.specs.Reading.{Outcome, read, stopped, Reader, next}
 use Rattle.pdw_parse.specs.declared.parse_error.Stop.TheVariants.{Memory, Syntax, TooDeep}

@@ -9,8 +9,8 @@ use Rattle.pdw_lex.specs.declared.sign.Sign.{Sign}
 use Rattle.pdw_lex.specs.declared.sign.Sign.TheVariants.{ParenOpen, ParenClose}
 use Rattle.pdw_lex.specs.declared.token.Lexeme.{Lexeme}
 use Rattle.pdw_lex.specs.declared.token.Lexeme.TheVariants as lexeme
-use Rattle.pdw_ast.specs.Lexemes.{same_keyword, same_sign, is_key, is_sign, is_word, name_of, number_of, text_of}
-use Rattle.pdw_ast.specs.Rule.{Empty, empty, One, one, Then, both, Either, first, second, Maybe, absent, present, Many, none, more, Enclosed, enclosed}
+use Rattle.pdw_syntax.specs.Lexemes.{same_keyword, same_sign, is_key, is_sign, is_word, name_of, number_of, text_of}
+use Rattle.pdw_syntax.specs.Rule.{Empty, empty, One, one, Then, both, Either, first, second, Maybe, absent, present, Many, none, more, Enclosed, enclosed}
 use Rattle.pdw_parse.specs.Reading.{Outcome, read, stopped, Reader, and_then, next, meaning_of, take, take_if, eat}
 use Rattle.pdw_parse.proofs.Law.{Lawful}
 use Rattle.pdw_parse.proofs.Rules.{made, then_map, then_assoc, empty_then}

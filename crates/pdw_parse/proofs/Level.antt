@@ -1,8 +1,8 @@
 -- What the readings of parentheses at a level owe.
 use Rattle.std.proofs.Common.{ℕ, Option, Some, None}
-use Rattle.pdw_ast.specs.Groups.{Groups}
-use Rattle.pdw_ast.specs.Rule.{Rule, ◌>>◌, ◌<$>◌, ◌or◌, pure, Enclosed}
-use Rattle.pdw_ast.specs.declared.expr.SqlExpr.{SqlExpr}
+use Rattle.pdw_syntax.specs.Groups.{Groups}
+use Rattle.pdw_syntax.specs.Rule.{Rule, ◌>>◌, ◌<$>◌, ◌or◌, pure, Enclosed}
+use Rattle.pdw_syntax.specs.declared.expr.SqlExpr.{SqlExpr}
 use Rattle.pdw_parse.specs.ReadExprs.{Nested}
 use Rattle.pdw_parse.specs.declared.content.Among.{Among}
 use Rattle.pdw_parse.specs.declared.content.Among.TheVariants as among

@@ -4,17 +4,17 @@ use Rattle.pdw_lex.specs.declared.keyword.Keyword.TheVariants.{KwFrom, KwSelect}
 use Rattle.pdw_lex.specs.declared.sign.Sign.TheVariants as signs
 use Rattle.pdw_lex.specs.declared.token.Lexeme.{Lexeme}
 use Rattle.pdw_lex.specs.declared.token.Lexeme.TheVariants as lexeme
-use Rattle.pdw_ast.specs.Rule.{Empty, empty, one, Then, both, Either, first, second, absent, none, Enclosed}
-use Rattle.pdw_ast.specs.Groups.{no_groups}
-use Rattle.pdw_ast.specs.Exprs as expr_rule
-use Rattle.pdw_ast.specs.Tables as table_rule
-use Rattle.pdw_ast.specs.Queries as query_rule
-use Rattle.pdw_ast.specs.Texts.{groups}
-use Rattle.pdw_ast.specs.declared.expr.SqlExpr.TheVariants as e
-use Rattle.pdw_ast.specs.declared.query.Items.TheVariants as items_are
-use Rattle.pdw_ast.specs.declared.query.Primary.TheVariants as p
-use Rattle.pdw_ast.specs.declared.query.Query.{Query, roll-Query}
-use Rattle.pdw_ast.specs.declared.query.TableRef.{TableRef, roll-TableRef}
+use Rattle.pdw_syntax.specs.Rule.{Empty, empty, one, Then, both, Either, first, second, absent, none, Enclosed}
+use Rattle.pdw_syntax.specs.Groups.{no_groups}
+use Rattle.pdw_syntax.specs.Exprs as expr_rule
+use Rattle.pdw_syntax.specs.Tables as table_rule
+use Rattle.pdw_syntax.specs.Queries as query_rule
+use Rattle.pdw_syntax.specs.Texts.{groups}
+use Rattle.pdw_syntax.specs.declared.expr.SqlExpr.TheVariants as e
+use Rattle.pdw_syntax.specs.declared.query.Items.TheVariants as items_are
+use Rattle.pdw_syntax.specs.declared.query.Primary.TheVariants as p
+use Rattle.pdw_syntax.specs.declared.query.Query.{Query, roll-Query}
+use Rattle.pdw_syntax.specs.declared.query.TableRef.{TableRef, roll-TableRef}
 use Rattle.pdw_parse.specs.declared.content.Among.TheVariants as among_is
 use Rattle.pdw_parse.specs.declared.content.Operand.TheVariants as operand_is
 use Rattle.pdw_parse.specs.declared.content.Source.TheVariants as source_is

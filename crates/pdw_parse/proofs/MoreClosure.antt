@@ -8,8 +8,8 @@ use Rattle.pdw_lex.specs.declared.sign.Sign.{Sign as ASign}
 use Rattle.pdw_lex.specs.declared.sign.Sign.TheVariants.{ParenOpen, ParenClose}
 use Rattle.pdw_lex.specs.declared.token.Lexeme.{Lexeme}
 use Rattle.pdw_lex.specs.declared.token.Lexeme.TheVariants.{Key, Sign}
-use Rattle.pdw_ast.specs.Rule.{Empty, empty, One, one, Then, both, Either, first, second, Maybe, absent, present, Many, none, more}
-use Rattle.pdw_ast.specs.Lexemes.{is_key, is_sign, key, same_keyword, same_sign}
+use Rattle.pdw_syntax.specs.Rule.{Empty, empty, One, one, Then, both, Either, first, second, Maybe, absent, present, Many, none, more}
+use Rattle.pdw_syntax.specs.Lexemes.{is_key, is_sign, key, same_keyword, same_sign}
 use Rattle.pdw_parse.specs.Reading.{Outcome, read, stopped, and_then, next, take, taken, take_if, taken_if, meaning_of}
 use Rattle.pdw_parse.specs.declared.parse_error.Stop.TheVariants.{Memory, Syntax, TooDeep}
 use Rattle.pdw_parse.proofs.Law.{Tells, Above, Balanced, Lawful, LawfulAt}

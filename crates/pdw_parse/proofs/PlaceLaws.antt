@@ -3,13 +3,13 @@ use Rattle.std.proofs.Common.{◌≡◌, ℕ, zero, suc, ◌+◌, ◌≤◌, Lis
 use Rattle.pdw_lex.specs.declared.sign.Sign.TheVariants.{ParenOpen, Semicolon}
 use Rattle.pdw_lex.specs.declared.token.Lexeme.{Lexeme}
 use Rattle.pdw_lex.specs.declared.token.Lexeme.TheVariants.{Sign}
-use Rattle.pdw_ast.specs.Groups.{Groups}
-use Rattle.pdw_ast.specs.Lexemes.{is_sign}
-use Rattle.pdw_ast.specs.Queries.{select}
-use Rattle.pdw_ast.specs.Statements.{statement}
-use Rattle.pdw_ast.specs.Texts.{groups, script, IsText}
-use Rattle.pdw_ast.specs.declared.query.Select.{Select}
-use Rattle.pdw_ast.specs.declared.statement.Statement.{Statement}
+use Rattle.pdw_syntax.specs.Groups.{Groups}
+use Rattle.pdw_syntax.specs.Lexemes.{is_sign}
+use Rattle.pdw_syntax.specs.Queries.{select}
+use Rattle.pdw_syntax.specs.Statements.{statement}
+use Rattle.pdw_syntax.specs.Texts.{groups, script, IsText}
+use Rattle.pdw_syntax.specs.declared.query.Select.{Select}
+use Rattle.pdw_syntax.specs.declared.statement.Statement.{Statement}
 use Rattle.pdw_parse.specs.Levels.{nested}
 use Rattle.pdw_parse.specs.Reading.{Outcome, read, stopped, next, and_then, take}
 use Rattle.pdw_parse.specs.ReadStatements.{script as read_script, next_statement, statement as statement_read}

@@ -6,16 +6,16 @@ use Rattle.pdw_lex.specs.declared.keyword.Keyword.TheVariants.{KwAnd, KwBetween,
 use Rattle.pdw_lex.specs.declared.sign.Sign.TheVariants.{Dot, Equal, Minus, ParenOpen, Percent, Plus, Slash, Star}
 use Rattle.pdw_lex.specs.declared.token.Lexeme.{Lexeme}
 use Rattle.pdw_lex.specs.declared.token.Lexeme.TheVariants.{Key, Sign}
-use Rattle.pdw_ast.specs.Rule.{Rule, ◌>>=◌, ◌>>◌, ◌<$>◌, ◌or◌, pure, Empty, One, Then, both, Either, first, second, Enclosed}
-use Rattle.pdw_ast.specs.Lexemes.{is_key, same_keyword, key, comparison_of, minus_of}
-use Rattle.pdw_ast.specs.Groups.{Groups}
-use Rattle.pdw_ast.specs.Exprs.{expr as expr_rule, value as value_rule}
-use Rattle.pdw_ast.specs.Conds as rule
-use Rattle.pdw_ast.specs.Conds.{negation}
-use Rattle.pdw_ast.specs.declared.expr.SqlExpr.{SqlExpr}
-use Rattle.pdw_ast.specs.declared.expr.SqlExpr.TheVariants.{Paren as ParenExpr}
-use Rattle.pdw_ast.specs.declared.query.SqlCond.{SqlCond}
-use Rattle.pdw_ast.specs.declared.query.SqlCond.TheVariants as c
+use Rattle.pdw_syntax.specs.Rule.{Rule, ◌>>=◌, ◌>>◌, ◌<$>◌, ◌or◌, pure, Empty, One, Then, both, Either, first, second, Enclosed}
+use Rattle.pdw_syntax.specs.Lexemes.{is_key, same_keyword, key, comparison_of, minus_of}
+use Rattle.pdw_syntax.specs.Groups.{Groups}
+use Rattle.pdw_syntax.specs.Exprs.{expr as expr_rule, value as value_rule}
+use Rattle.pdw_syntax.specs.Conds as rule
+use Rattle.pdw_syntax.specs.Conds.{negation}
+use Rattle.pdw_syntax.specs.declared.expr.SqlExpr.{SqlExpr}
+use Rattle.pdw_syntax.specs.declared.expr.SqlExpr.TheVariants.{Paren as ParenExpr}
+use Rattle.pdw_syntax.specs.declared.query.SqlCond.{SqlCond}
+use Rattle.pdw_syntax.specs.declared.query.SqlCond.TheVariants as c
 use Rattle.pdw_parse.specs.Reading.{Outcome, read, and_then, next, take, eat, meaning_of}
 use Rattle.pdw_parse.specs.ReadExprs.{Nested, expr}
 use Rattle.pdw_parse.specs.ReadConds.{among_cond, null_test_from, between_from, negatable_by, negatable_from, null_test_or, predicate_by, predicate_from, after_group, started_by, started, completed, primary_condition}

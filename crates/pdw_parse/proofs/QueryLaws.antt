@@ -4,20 +4,20 @@ use Rattle.pdw_lex.specs.declared.keyword.Keyword.TheVariants.{KwAs, KwBy, KwFro
 use Rattle.pdw_lex.specs.declared.sign.Sign.TheVariants.{ParenClose, Comma, Dot, Star, Plus, Minus, Semicolon}
 use Rattle.pdw_lex.specs.declared.token.Lexeme.{Lexeme}
 use Rattle.pdw_lex.specs.declared.token.Lexeme.TheVariants as lexeme
-use Rattle.pdw_ast.specs.Rule.{Rule, Empty, empty, One, Then, both, Either, first, second, Maybe, absent, present}
-use Rattle.pdw_ast.specs.Lexemes.{same_keyword, same_sign, is_key, is_sign, name_of, quantifier_of, direction_of, order_name_of, name}
-use Rattle.pdw_ast.specs.Groups.{Groups}
-use Rattle.pdw_ast.specs.Exprs as expr_rule
-use Rattle.pdw_ast.specs.Conds as cond_rule
-use Rattle.pdw_ast.specs.Tables as table_rule
-use Rattle.pdw_ast.specs.Queries as rule
-use Rattle.pdw_ast.specs.declared.expr.SqlExpr.{SqlExpr}
-use Rattle.pdw_ast.specs.declared.expr.SqlExpr.TheVariants.{Col}
-use Rattle.pdw_ast.specs.declared.query.Item.{Item}
-use Rattle.pdw_ast.specs.declared.query.Item.TheVariants.{AliasStar, Made}
-use Rattle.pdw_ast.specs.declared.query.Items.TheVariants as items_are
-use Rattle.pdw_ast.specs.declared.query.OrderName.TheVariants as order
-use Rattle.pdw_ast.specs.declared.query.SqlCond.{SqlCond}
+use Rattle.pdw_syntax.specs.Rule.{Rule, Empty, empty, One, Then, both, Either, first, second, Maybe, absent, present}
+use Rattle.pdw_syntax.specs.Lexemes.{same_keyword, same_sign, is_key, is_sign, name_of, quantifier_of, direction_of, order_name_of, name}
+use Rattle.pdw_syntax.specs.Groups.{Groups}
+use Rattle.pdw_syntax.specs.Exprs as expr_rule
+use Rattle.pdw_syntax.specs.Conds as cond_rule
+use Rattle.pdw_syntax.specs.Tables as table_rule
+use Rattle.pdw_syntax.specs.Queries as rule
+use Rattle.pdw_syntax.specs.declared.expr.SqlExpr.{SqlExpr}
+use Rattle.pdw_syntax.specs.declared.expr.SqlExpr.TheVariants.{Col}
+use Rattle.pdw_syntax.specs.declared.query.Item.{Item}
+use Rattle.pdw_syntax.specs.declared.query.Item.TheVariants.{AliasStar, Made}
+use Rattle.pdw_syntax.specs.declared.query.Items.TheVariants as items_are
+use Rattle.pdw_syntax.specs.declared.query.OrderName.TheVariants as order
+use Rattle.pdw_syntax.specs.declared.query.SqlCond.{SqlCond}
 use Rattle.pdw_parse.specs.declared.content.Among.{Among}
 use Rattle.pdw_parse.specs.declared.content.Among.TheVariants as among_is
 use Rattle.pdw_parse.specs.declared.content.Source.{Source}

@@ -3,7 +3,7 @@ use Rattle.std.proofs.Common.{List, [], ◌∷◌, ◌++◌, Option, Some, None,
 use Rattle.pdw_lex.specs.declared.sign.Sign.TheVariants.{ParenOpen, ParenClose}
 use Rattle.pdw_lex.specs.declared.token.Lexeme.{Lexeme}
 use Rattle.pdw_lex.specs.declared.token.Lexeme.TheVariants.{Sign}
-use Rattle.pdw_ast.specs.Rule.{Empty, empty, Then, both, Either, first, second, Maybe, absent, present, Many, none, more, Enclosed, enclosed}
+use Rattle.pdw_syntax.specs.Rule.{Empty, empty, Then, both, Either, first, second, Maybe, absent, present, Many, none, more, Enclosed, enclosed}
 
 -- ---- each text of the one rule is a text of the other
 

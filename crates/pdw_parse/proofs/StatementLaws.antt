@@ -5,16 +5,16 @@ use Rattle.pdw_lex.specs.declared.keyword.Keyword.TheVariants.{KwCreate, KwDisti
 use Rattle.pdw_lex.specs.declared.sign.Sign.TheVariants.{Comma, Equal, Semicolon}
 use Rattle.pdw_lex.specs.declared.token.Lexeme.{Lexeme}
 use Rattle.pdw_lex.specs.declared.token.Lexeme.TheVariants as lexeme
-use Rattle.pdw_ast.specs.Rule.{Rule, Empty, empty, One, Then, both, Either, first, second, Maybe, absent, present, Many, Enclosed}
-use Rattle.pdw_ast.specs.Groups.{Groups}
-use Rattle.pdw_ast.specs.Lexemes.{same_keyword, same_sign, is_key, is_sign, is_word, number_of, kind_of, cost_part_of}
-use Rattle.pdw_ast.specs.Exprs.{listed}
-use Rattle.pdw_ast.specs.Queries.{select}
-use Rattle.pdw_ast.specs.Statements as rule
-use Rattle.pdw_ast.specs.Texts as texts
-use Rattle.pdw_ast.specs.declared.statement.CostPart.TheVariants as cost
-use Rattle.pdw_ast.specs.declared.statement.Statement.{Statement}
-use Rattle.pdw_ast.specs.declared.statement.Statement.TheVariants as s
+use Rattle.pdw_syntax.specs.Rule.{Rule, Empty, empty, One, Then, both, Either, first, second, Maybe, absent, present, Many, Enclosed}
+use Rattle.pdw_syntax.specs.Groups.{Groups}
+use Rattle.pdw_syntax.specs.Lexemes.{same_keyword, same_sign, is_key, is_sign, is_word, number_of, kind_of, cost_part_of}
+use Rattle.pdw_syntax.specs.Exprs.{listed}
+use Rattle.pdw_syntax.specs.Queries.{select}
+use Rattle.pdw_syntax.specs.Statements as rule
+use Rattle.pdw_syntax.specs.Texts as texts
+use Rattle.pdw_syntax.specs.declared.statement.CostPart.TheVariants as cost
+use Rattle.pdw_syntax.specs.declared.statement.Statement.{Statement}
+use Rattle.pdw_syntax.specs.declared.statement.Statement.TheVariants as s
 use Rattle.pdw_parse.specs.Reading.{Outcome, read, stopped, Reader, and_then, ◌>>=◌, ◌>>◌, ◌<$>◌, pure, refuse, next, take}
 use Rattle.pdw_parse.specs.ReadExprs.{Nested}
 use Rattle.pdw_parse.specs.ReadQueries as read_queries

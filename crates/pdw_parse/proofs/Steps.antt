@@ -3,7 +3,7 @@ use Rattle.std.proofs.Common.{◌≡◌, ℕ, Bool, true, false, List, [], ◌�
 use Rattle.pdw_lex.specs.declared.token.Lexeme.{Lexeme}
 use Rattle.pdw_lex.specs.declared.token.Lexeme.TheVariants as lexeme
 use Rattle.pdw_lex.specs.declared.sign.Sign.TheVariants.{ParenOpen}
-use Rattle.pdw_ast.specs.Rule.{Maybe, absent, present}
+use Rattle.pdw_syntax.specs.Rule.{Maybe, absent, present}
 use Rattle.pdw_parse.specs.Reading.{Outcome, read, stopped, next, and_then}
 use Rattle.pdw_parse.specs.declared.parse_error.Stop.TheVariants.{Memory, Syntax, TooDeep}
 use Rattle.pdw_parse.proofs.Law.{Balanced, Begins, Tells, Above, Lawful, LawfulAt, LawfulStep}

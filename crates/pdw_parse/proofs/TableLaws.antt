@@ -4,15 +4,15 @@ use Rattle.pdw_lex.specs.declared.keyword.Keyword.TheVariants.{KwAs, KwCross, Kw
 use Rattle.pdw_lex.specs.declared.sign.Sign.TheVariants.{ParenOpen}
 use Rattle.pdw_lex.specs.declared.token.Lexeme.{Lexeme}
 use Rattle.pdw_lex.specs.declared.token.Lexeme.TheVariants as lexeme
-use Rattle.pdw_ast.specs.Rule.{Rule, Empty, empty, One, Then, both, Either, first, second, Maybe, absent, present}
-use Rattle.pdw_ast.specs.Lexemes.{same_keyword, is_key, name_of, outer_of, name}
-use Rattle.pdw_ast.specs.Groups.{Groups}
-use Rattle.pdw_ast.specs.Tables as rule
-use Rattle.pdw_ast.specs.declared.query.JoinWord.{JoinWord}
-use Rattle.pdw_ast.specs.declared.query.JoinWord.TheVariants.{Cross, Inner, Left, Right, Full}
-use Rattle.pdw_ast.specs.declared.query.JoinPart.{JoinPart, roll-JoinPart}
-use Rattle.pdw_ast.specs.declared.query.Primary.{Primary}
-use Rattle.pdw_ast.specs.declared.query.Primary.TheVariants as p
+use Rattle.pdw_syntax.specs.Rule.{Rule, Empty, empty, One, Then, both, Either, first, second, Maybe, absent, present}
+use Rattle.pdw_syntax.specs.Lexemes.{same_keyword, is_key, name_of, outer_of, name}
+use Rattle.pdw_syntax.specs.Groups.{Groups}
+use Rattle.pdw_syntax.specs.Tables as rule
+use Rattle.pdw_syntax.specs.declared.query.JoinWord.{JoinWord}
+use Rattle.pdw_syntax.specs.declared.query.JoinWord.TheVariants.{Cross, Inner, Left, Right, Full}
+use Rattle.pdw_syntax.specs.declared.query.JoinPart.{JoinPart, roll-JoinPart}
+use Rattle.pdw_syntax.specs.declared.query.Primary.{Primary}
+use Rattle.pdw_syntax.specs.declared.query.Primary.TheVariants as p
 use Rattle.pdw_parse.specs.declared.content.Source.{Source}
 use Rattle.pdw_parse.specs.declared.content.Source.TheVariants as source
 use Rattle.pdw_parse.specs.Reading.{Outcome, read, stopped, Reader, and_then, ◌>>=◌, ◌>>◌, ◌<$>◌, pure, next, take, take_if, eat}

@@ -4,8 +4,8 @@ use Rattle.pdw_lex.specs.declared.sign.Sign.TheVariants.{ParenOpen}
 use Rattle.pdw_lex.specs.declared.token.Lexeme.{Lexeme}
 use Rattle.pdw_lex.specs.declared.token.Lexeme.TheVariants.{Sign}
 use Rattle.pdw_lex.specs.declared.token.Token.{Token}
-use Rattle.pdw_ast.specs.Texts.{IsText}
-use Rattle.pdw_ast.specs.declared.statement.Statement.{Statement}
+use Rattle.pdw_syntax.specs.Texts.{IsText}
+use Rattle.pdw_syntax.specs.declared.statement.Statement.{Statement}
 use Rattle.pdw_parse.specs.Depth.{IsShallow, open_after}
 use Rattle.pdw_parse.specs.Tokens.{lexemes}
 use Rattle.pdw_parse.specs.declared.parse_error.ParseError.{ParseError}

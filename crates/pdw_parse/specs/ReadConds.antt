@@ -6,12 +6,12 @@ use Rattle.pdw_lex.specs.declared.keyword.Keyword.TheVariants.{KwAnd, KwBetween,
 use Rattle.pdw_lex.specs.declared.sign.Sign.TheVariants.{ParenOpen}
 use Rattle.pdw_lex.specs.declared.token.Lexeme.{Lexeme}
 use Rattle.pdw_lex.specs.declared.token.Lexeme.TheVariants as lexeme
-use Rattle.pdw_ast.specs.Lexemes.{is_key, comparison_of, truth_of}
-use Rattle.pdw_ast.specs.Conds.{all_of, any_of, negated_by, tested}
-use Rattle.pdw_ast.specs.declared.expr.SqlExpr.{SqlExpr}
-use Rattle.pdw_ast.specs.declared.expr.SqlExpr.TheVariants.{Paren as ParenExpr}
-use Rattle.pdw_ast.specs.declared.query.SqlCond.{SqlCond}
-use Rattle.pdw_ast.specs.declared.query.SqlCond.TheVariants as c
+use Rattle.pdw_syntax.specs.Lexemes.{is_key, comparison_of, truth_of}
+use Rattle.pdw_syntax.specs.Conds.{all_of, any_of, negated_by, tested}
+use Rattle.pdw_syntax.specs.declared.expr.SqlExpr.{SqlExpr}
+use Rattle.pdw_syntax.specs.declared.expr.SqlExpr.TheVariants.{Paren as ParenExpr}
+use Rattle.pdw_syntax.specs.declared.query.SqlCond.{SqlCond}
+use Rattle.pdw_syntax.specs.declared.query.SqlCond.TheVariants as c
 use Rattle.pdw_parse.specs.declared.content.Among.{Among}
 use Rattle.pdw_parse.specs.declared.content.Among.TheVariants as among
 use Rattle.pdw_parse.specs.declared.content.Operand.{Operand}

@@ -6,12 +6,12 @@ use Rattle.pdw_expr.specs.declared.agg.AggKind.TheVariants.{CountStar, Count}
 use Rattle.pdw_lex.specs.declared.sign.Sign.TheVariants.{Comma, Dot, Star}
 use Rattle.pdw_lex.specs.declared.token.Lexeme.{Lexeme}
 use Rattle.pdw_lex.specs.declared.token.Lexeme.TheVariants as lexeme
-use Rattle.pdw_ast.specs.Lexemes.{is_sign, name_of, minus_of, aggregate_of, term_operator_of, factor_operator_of}
-use Rattle.pdw_ast.specs.Exprs.{chained, with_sign}
-use Rattle.pdw_ast.specs.declared.expr.ColRef.{ColRef}
-use Rattle.pdw_ast.specs.declared.expr.SqlExpr.{SqlExpr}
-use Rattle.pdw_ast.specs.declared.expr.SqlExpr.TheVariants as e
-use Rattle.pdw_ast.specs.declared.query.Query.{Query}
+use Rattle.pdw_syntax.specs.Lexemes.{is_sign, name_of, minus_of, aggregate_of, term_operator_of, factor_operator_of}
+use Rattle.pdw_syntax.specs.Exprs.{chained, with_sign}
+use Rattle.pdw_syntax.specs.declared.expr.ColRef.{ColRef}
+use Rattle.pdw_syntax.specs.declared.expr.SqlExpr.{SqlExpr}
+use Rattle.pdw_syntax.specs.declared.expr.SqlExpr.TheVariants as e
+use Rattle.pdw_syntax.specs.declared.query.Query.{Query}
 use Rattle.pdw_parse.specs.declared.content.Among.{Among}
 use Rattle.pdw_parse.specs.declared.content.Operand.{Operand}
 use Rattle.pdw_parse.specs.declared.content.Source.{Source}

@@ -4,19 +4,19 @@ use Rattle.pdw_lex.specs.declared.keyword.Keyword.TheVariants.{KwBy, KwFrom, KwG
 use Rattle.pdw_lex.specs.declared.sign.Sign.TheVariants.{Dot, Star}
 use Rattle.pdw_lex.specs.declared.token.Lexeme.{Lexeme}
 use Rattle.pdw_lex.specs.declared.token.Lexeme.TheVariants as lexeme
-use Rattle.pdw_ast.specs.Lexemes.{is_key, is_sign, name_of, quantifier_of, direction_of, order_name_of}
-use Rattle.pdw_ast.specs.declared.expr.ColRef.{ColRef}
-use Rattle.pdw_ast.specs.declared.expr.SqlExpr.{SqlExpr}
-use Rattle.pdw_ast.specs.declared.expr.SqlExpr.TheVariants.{Col}
-use Rattle.pdw_ast.specs.declared.query.Item.{Item}
-use Rattle.pdw_ast.specs.declared.query.Item.TheVariants.{AliasStar, Made}
-use Rattle.pdw_ast.specs.declared.query.Items.{Items}
-use Rattle.pdw_ast.specs.declared.query.Items.TheVariants as items_are
-use Rattle.pdw_ast.specs.declared.query.OrderKey.{OrderKey}
-use Rattle.pdw_ast.specs.declared.query.Query.{Query, roll-Query}
-use Rattle.pdw_ast.specs.declared.query.Select.{Select}
-use Rattle.pdw_ast.specs.declared.query.SqlCond.{SqlCond}
-use Rattle.pdw_ast.specs.declared.query.TableRef.{TableRef}
+use Rattle.pdw_syntax.specs.Lexemes.{is_key, is_sign, name_of, quantifier_of, direction_of, order_name_of}
+use Rattle.pdw_syntax.specs.declared.expr.ColRef.{ColRef}
+use Rattle.pdw_syntax.specs.declared.expr.SqlExpr.{SqlExpr}
+use Rattle.pdw_syntax.specs.declared.expr.SqlExpr.TheVariants.{Col}
+use Rattle.pdw_syntax.specs.declared.query.Item.{Item}
+use Rattle.pdw_syntax.specs.declared.query.Item.TheVariants.{AliasStar, Made}
+use Rattle.pdw_syntax.specs.declared.query.Items.{Items}
+use Rattle.pdw_syntax.specs.declared.query.Items.TheVariants as items_are
+use Rattle.pdw_syntax.specs.declared.query.OrderKey.{OrderKey}
+use Rattle.pdw_syntax.specs.declared.query.Query.{Query, roll-Query}
+use Rattle.pdw_syntax.specs.declared.query.Select.{Select}
+use Rattle.pdw_syntax.specs.declared.query.SqlCond.{SqlCond}
+use Rattle.pdw_syntax.specs.declared.query.TableRef.{TableRef}
 use Rattle.pdw_parse.specs.declared.content.Among.{Among}
 use Rattle.pdw_parse.specs.declared.content.Among.TheVariants as among_is
 use Rattle.pdw_parse.specs.declared.content.Source.{Source}

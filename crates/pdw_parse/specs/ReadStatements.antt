@@ -6,10 +6,10 @@ use Rattle.pdw_lex.specs.declared.keyword.Keyword.TheVariants.{KwCreate, KwDisti
 use Rattle.pdw_lex.specs.declared.sign.Sign.TheVariants.{Equal, Semicolon}
 use Rattle.pdw_lex.specs.declared.token.Lexeme.{Lexeme}
 use Rattle.pdw_lex.specs.declared.token.Lexeme.TheVariants as lexeme
-use Rattle.pdw_ast.specs.Lexemes.{is_key, is_sign, is_word, name_of, number_of, text_of, kind_of, cost_part_of}
-use Rattle.pdw_ast.specs.Statements.{statistics_of}
-use Rattle.pdw_ast.specs.declared.statement.Statement.{Statement}
-use Rattle.pdw_ast.specs.declared.statement.Statement.TheVariants as s
+use Rattle.pdw_syntax.specs.Lexemes.{is_key, is_sign, is_word, name_of, number_of, text_of, kind_of, cost_part_of}
+use Rattle.pdw_syntax.specs.Statements.{statistics_of}
+use Rattle.pdw_syntax.specs.declared.statement.Statement.{Statement}
+use Rattle.pdw_syntax.specs.declared.statement.Statement.TheVariants as s
 use Rattle.pdw_parse.specs.Reading.{Reader, ◌>>=◌, ◌>>◌, ◌<$>◌, pure, refuse, by_next, take, eat, many, begun_by, enclosed}
 use Rattle.pdw_parse.specs.ReadExprs.{Nested, listed, after_comma}
 use Rattle.pdw_parse.specs.ReadQueries.{select}

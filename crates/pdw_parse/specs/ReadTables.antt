@@ -3,13 +3,13 @@ use Rattle.std.specs.Prelude.{ℕ, Bool, List, Option, Some, None, if◌then◌e
 use Rattle.pdw_lex.specs.declared.keyword.Keyword.TheVariants.{KwAs, KwCross, KwInner, KwJoin, KwOn, KwOuter}
 use Rattle.pdw_lex.specs.declared.token.Lexeme.{Lexeme}
 use Rattle.pdw_lex.specs.declared.token.Lexeme.TheVariants as lexeme
-use Rattle.pdw_ast.specs.Lexemes.{is_key, name_of, outer_of}
-use Rattle.pdw_ast.specs.declared.query.JoinWord.{JoinWord}
-use Rattle.pdw_ast.specs.declared.query.JoinWord.TheVariants.{Cross, Inner}
-use Rattle.pdw_ast.specs.declared.query.JoinPart.{JoinPart, roll-JoinPart}
-use Rattle.pdw_ast.specs.declared.query.Primary.{Primary}
-use Rattle.pdw_ast.specs.declared.query.Primary.TheVariants as p
-use Rattle.pdw_ast.specs.declared.query.TableRef.{TableRef, roll-TableRef}
+use Rattle.pdw_syntax.specs.Lexemes.{is_key, name_of, outer_of}
+use Rattle.pdw_syntax.specs.declared.query.JoinWord.{JoinWord}
+use Rattle.pdw_syntax.specs.declared.query.JoinWord.TheVariants.{Cross, Inner}
+use Rattle.pdw_syntax.specs.declared.query.JoinPart.{JoinPart, roll-JoinPart}
+use Rattle.pdw_syntax.specs.declared.query.Primary.{Primary}
+use Rattle.pdw_syntax.specs.declared.query.Primary.TheVariants as p
+use Rattle.pdw_syntax.specs.declared.query.TableRef.{TableRef, roll-TableRef}
 use Rattle.pdw_parse.specs.declared.content.Source.{Source}
 use Rattle.pdw_parse.specs.declared.content.Source.TheVariants as source
 use Rattle.pdw_parse.specs.Reading.{Reader, ◌>>=◌, ◌>>◌, ◌<$>◌, pure, by_next, advance, meaning_of, take, eat, many}

@@ -2,7 +2,7 @@
 use Rattle.std.specs.Prelude.{◌≡◌, ◌≢◌, ℕ, zero, suc, Bool, List, [], ◌∷◌, ◌++◌, length, drop, Option, Some, None, Result, Ok, Err, is_some, if◌then◌else◌}
 use Rattle.pdw_lex.specs.declared.sign.Sign.TheVariants.{ParenOpen, ParenClose}
 use Rattle.pdw_lex.specs.declared.token.Lexeme.{Lexeme}
-use Rattle.pdw_ast.specs.Lexemes.{is_sign}
+use Rattle.pdw_syntax.specs.Lexemes.{is_sign}
 use Rattle.pdw_parse.specs.declared.parse_error.Stop.{Stop}
 use Rattle.pdw_parse.specs.declared.parse_error.Stop.TheVariants.{Memory, Syntax, TooDeep}
 

@@ -1,8 +1,8 @@
 -- Which statements lexemes spell.
 use Rattle.std.specs.Prelude.{List, length}
 use Rattle.pdw_lex.specs.declared.token.Lexeme.{Lexeme}
-use Rattle.pdw_ast.specs.Texts.{IsText}
-use Rattle.pdw_ast.specs.declared.statement.Statement.{Statement}
+use Rattle.pdw_syntax.specs.Texts.{IsText}
+use Rattle.pdw_syntax.specs.declared.statement.Statement.{Statement}
 use Rattle.pdw_parse.specs.Depth.{IsShallow}
 use Rattle.pdw_parse.specs.declared.parser.TheConstants.{MOST_OPEN}
 

@@ -1,8 +1,8 @@
 //! Conditions.
 
 ghost use Rattle.std.specs.Prelude.{◌≡◌, IfOk};
-ghost use Rattle.pdw_ast.specs.Conds.{all_of as all_of_spec, any_of as any_of_spec, negated_by as negated_by_spec, tested as tested_spec};
-ghost use Rattle.pdw_ast.specs.Lexemes as lexemes;
+ghost use Rattle.pdw_syntax.specs.Conds.{all_of as all_of_spec, any_of as any_of_spec, negated_by as negated_by_spec, tested as tested_spec};
+ghost use Rattle.pdw_syntax.specs.Lexemes as lexemes;
 ghost use Rattle.pdw_parse.specs.Levels.{Nests, nested};
 ghost use Rattle.pdw_parse.specs.ReadConds as spec;
 ghost use Rattle.pdw_parse.specs.Reading.{Reads, begun_by, many, next};
@@ -13,10 +13,10 @@ use crate::lexemes::{comparison_of, truth_of};
 use crate::lists::first_and_rest;
 use crate::parse_error::Stop;
 use crate::tokens::Tokens;
-use pdw_ast::{SqlCond, SqlExpr};
 use pdw_base::Truth;
 use pdw_expr::Cmp;
 use pdw_lex::{Keyword, Lexeme, Sign};
+use pdw_syntax::{SqlCond, SqlExpr};
 use sqlite_items::{Boxed, Items as ListOf};
 use std::alloc::{AllocError, Global};
 

@@ -1,6 +1,6 @@
 //! What parentheses may hold.
 
-use pdw_ast::{Query, SqlCond, SqlExpr, TableRef};
+use pdw_syntax::{Query, SqlCond, SqlExpr, TableRef};
 use sqlite_items::Items as ListOf;
 
 /// What parentheses are to hold.

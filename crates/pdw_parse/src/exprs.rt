@@ -1,8 +1,8 @@
 //! Value expressions.
 
 ghost use Rattle.std.specs.Prelude.{◌≡◌, [], ◌∷◌, IfOk};
-ghost use Rattle.pdw_ast.specs.Lexemes as lexemes;
-ghost use Rattle.pdw_ast.specs.Exprs.{chained as chained_spec, with_sign as with_sign_spec};
+ghost use Rattle.pdw_syntax.specs.Lexemes as lexemes;
+ghost use Rattle.pdw_syntax.specs.Exprs.{chained as chained_spec, with_sign as with_sign_spec};
 ghost use Rattle.pdw_parse.specs.Levels.{Nests, nested};
 ghost use Rattle.pdw_parse.specs.ReadExprs as spec;
 ghost use Rattle.pdw_parse.specs.Reading.{Reads, many};
@@ -13,10 +13,10 @@ use crate::lexemes::{aggregate_of, factor_operator_of, minus_of, term_operator_o
 use crate::lists::first_and_rest;
 use crate::parse_error::Stop;
 use crate::tokens::Tokens;
-use pdw_ast::{ColRef, SqlExpr};
 use pdw_base::Str;
 use pdw_expr::{AggKind, Arith};
 use pdw_lex::{Lexeme, Sign};
+use pdw_syntax::{ColRef, SqlExpr};
 use sqlite_items::{Boxed, Items as ListOf};
 use std::alloc::{AllocError, Global};
 

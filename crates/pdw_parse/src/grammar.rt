@@ -6,7 +6,7 @@ ghost use Rattle.pdw_parse.specs.Reading.{Reads};
 use crate::content::{Among, Content, Operand, Source, Wanted};
 use crate::parse_error::Stop;
 use crate::tokens::Tokens;
-use pdw_ast::{Query, SqlExpr};
+use pdw_syntax::{Query, SqlExpr};
 use std::alloc::Global;
 
 #[derive(Clone, Copy)]

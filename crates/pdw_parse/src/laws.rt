@@ -1,8 +1,8 @@
 //! Laws of statements and faults.
 
 ghost use Rattle.std.specs.Prelude.{◌≡◌, ℕ, List};
-ghost use Rattle.pdw_ast.specs.Texts.{IsText};
-ghost use Rattle.pdw_ast.specs.declared.statement.Statement.{Statement as StatementOf};
+ghost use Rattle.pdw_syntax.specs.Texts.{IsText};
+ghost use Rattle.pdw_syntax.specs.declared.statement.Statement.{Statement as StatementOf};
 ghost use Rattle.pdw_lex.specs.declared.token.Lexeme.{Lexeme as LexemeOf};
 ghost use Rattle.pdw_lex.specs.declared.token.Token.{Token as TokenOf};
 ghost use Rattle.pdw_parse.specs.Fault.{IsFault};

@@ -2,13 +2,13 @@
 
 ghost use Rattle.std.specs.Prelude.{◌≡◌};
 ghost use Rattle.std.specs.Option.{option_copied};
-ghost use Rattle.pdw_ast.specs.Lexemes as spec;
+ghost use Rattle.pdw_syntax.specs.Lexemes as spec;
 ghost use Rattle.pdw_parse.specs.Reading.{meaning_of};
 
-use pdw_ast::{CostPart, JoinWord};
 use pdw_base::{Kind, Truth};
 use pdw_expr::{AggKind, Arith, Cmp};
 use pdw_lex::{Keyword, Lexeme, Sign};
+use pdw_syntax::{CostPart, JoinWord};
 
 /// INT or TEXT.
 pub fn kind_of(lexeme: Option<&Lexeme>) -> Option<Kind>

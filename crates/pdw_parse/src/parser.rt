@@ -8,8 +8,8 @@ use crate::grammar::Grammar;
 use crate::groups::group;
 use crate::parse_error::Stop;
 use crate::tokens::Tokens;
-use pdw_ast::Statement;
 use pdw_lex::Token;
+use pdw_syntax::Statement;
 use sqlite_items::Items as ListOf;
 use std::alloc::Global;
 

@@ -4,7 +4,7 @@ ghost use Rattle.std.specs.Prelude.{◌≡◌};
 ghost use Rattle.pdw_parse.specs.Levels.{Nests, nested};
 ghost use Rattle.pdw_parse.specs.ReadExprs.{after_comma, column_reference as column_reference_spec};
 ghost use Rattle.pdw_parse.specs.ReadQueries as spec;
-ghost use Rattle.pdw_ast.specs.Lexemes.{order_name_of};
+ghost use Rattle.pdw_syntax.specs.Lexemes.{order_name_of};
 ghost use Rattle.pdw_parse.specs.Reading.{Reads, many, read, take};
 
 use crate::content::{Among, Content, Source, Wanted};
@@ -15,11 +15,11 @@ use crate::lists::first_and_rest;
 use crate::parse_error::Stop;
 use crate::tables::alias;
 use crate::tokens::Tokens;
-use pdw_ast::{
-    ColRef, Item, Items, OrderKey, OrderName, Query, Select, SqlCond, SqlExpr, TableRef,
-};
 use pdw_base::Str;
 use pdw_lex::{Keyword, Lexeme, Sign};
+use pdw_syntax::{
+    ColRef, Item, Items, OrderKey, OrderName, Query, Select, SqlCond, SqlExpr, TableRef,
+};
 use sqlite_items::Items as ListOf;
 use std::alloc::Global;
 

@@ -1,6 +1,6 @@
 //! Statements and scripts.
 
-ghost use Rattle.pdw_ast.specs.Lexemes.{name_of};
+ghost use Rattle.pdw_syntax.specs.Lexemes.{name_of};
 ghost use Rattle.pdw_parse.specs.Levels.{Nests, nested};
 ghost use Rattle.pdw_parse.specs.ReadExprs.{after_comma};
 ghost use Rattle.pdw_parse.specs.ReadStatements as spec;
@@ -12,10 +12,10 @@ use crate::lexemes::{cost_part_of, kind_of};
 use crate::lists::first_and_rest;
 use crate::parse_error::Stop;
 use crate::tokens::Tokens;
-use pdw_ast::Statement;
 use pdw_base::Str;
 use pdw_catalog::Column;
 use pdw_lex::{Keyword, Lexeme, Sign};
+use pdw_syntax::Statement;
 use sqlite_items::Items as ListOf;
 use std::alloc::Global;
 

@@ -1,7 +1,7 @@
 //! FROM.
 
 ghost use Rattle.std.specs.Prelude.{◌≡◌};
-ghost use Rattle.pdw_ast.specs.Lexemes as lexemes;
+ghost use Rattle.pdw_syntax.specs.Lexemes as lexemes;
 ghost use Rattle.pdw_parse.specs.Levels.{Nests, nested};
 ghost use Rattle.pdw_parse.specs.ReadExprs.{after_comma};
 ghost use Rattle.pdw_parse.specs.ReadTables as spec;
@@ -13,9 +13,9 @@ use crate::lexemes::outer_of;
 use crate::lists::first_and_rest;
 use crate::parse_error::Stop;
 use crate::tokens::Tokens;
-use pdw_ast::{JoinPart, JoinWord, Primary, TableRef};
 use pdw_base::Str;
 use pdw_lex::{Keyword, Lexeme, Sign};
+use pdw_syntax::{JoinPart, JoinWord, Primary, TableRef};
 use sqlite_items::{Boxed, Items as ListOf};
 use std::alloc::Global;
 

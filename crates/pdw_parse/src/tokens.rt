@@ -2,7 +2,7 @@
 
 ghost use Rattle.std.specs.Prelude.{◌≡◌, length, drop};
 ghost use Rattle.std.specs.Option.{option_copied};
-ghost use Rattle.pdw_ast.specs.Lexemes.{is_key, is_sign, is_word, name_of, number_of, text_of, same_keyword, same_sign};
+ghost use Rattle.pdw_syntax.specs.Lexemes.{is_key, is_sign, is_word, name_of, number_of, text_of, same_keyword, same_sign};
 ghost use Rattle.pdw_parse.specs.Tokens.{lexemes};
 ghost use Rattle.pdw_parse.specs.Reading as reading;
 ghost use Rattle.pdw_parse.specs.Reading.{Reads, read, next, sees};
@@ -35,7 +35,7 @@ impl<'a> Model for Tokens<'a> {
 }
 
 // Whether two keywords are one.
-#[tactic(auto, unfolding(pdw_ast::specs::Lexemes::same_keyword))]
+#[tactic(auto, unfolding(pdw_syntax::specs::Lexemes::same_keyword))]
 fn same_keyword_as(a: Keyword, b: Keyword) -> bool
     ensures { result ≡ same_keyword a b }
 {
@@ -43,7 +43,7 @@ fn same_keyword_as(a: Keyword, b: Keyword) -> bool
 }
 
 // Whether two signs are one.
-#[tactic(auto, unfolding(pdw_ast::specs::Lexemes::same_sign))]
+#[tactic(auto, unfolding(pdw_syntax::specs::Lexemes::same_sign))]
 fn same_sign_as(a: Sign, b: Sign) -> bool
     ensures { result ≡ same_sign a b }
 {

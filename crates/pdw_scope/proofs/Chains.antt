@@ -1,10 +1,10 @@
 -- What the walk of a chain is, by the walks of its operands.
 use Rattle.std.proofs.Common.{◌≡◌, List, [], ◌∷◌, map, ap, sym, ◌∙◌, refl}
-use Rattle.pdw_ast.specs.declared.expr.SqlExpr.{SqlExpr}
-use Rattle.pdw_ast.specs.declared.expr.SqlExpr.TheFolds.{fold-roll-SqlExpr}
-use Rattle.pdw_ast.specs.declared.expr.SqlExpr.TheOpen.{SqlExpr-F}
-use Rattle.pdw_ast.specs.declared.expr.SqlExpr.TheVariants as is
-use Rattle.pdw_ast.specs.declared.expr.SqlExpr.TheVariants.{rolls-Chain}
+use Rattle.pdw_syntax.specs.declared.expr.SqlExpr.{SqlExpr}
+use Rattle.pdw_syntax.specs.declared.expr.SqlExpr.TheFolds.{fold-roll-SqlExpr}
+use Rattle.pdw_syntax.specs.declared.expr.SqlExpr.TheOpen.{SqlExpr-F}
+use Rattle.pdw_syntax.specs.declared.expr.SqlExpr.TheVariants as is
+use Rattle.pdw_syntax.specs.declared.expr.SqlExpr.TheVariants.{rolls-Chain}
 use Rattle.pdw_expr.specs.declared.scalar.Arith.{Arith}
 use Rattle.pdw_scope.specs.Exprs.{chain, chained, expr, expr_step, operand, operand_of}
 use Rattle.pdw_scope.specs.Lookup.{Place}

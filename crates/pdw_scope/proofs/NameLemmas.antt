@@ -1,11 +1,11 @@
 -- Aggregates in a chain.
 use Rattle.std.proofs.Common.{◌≡◌, ◌||◌, Bool, false, List, [], ◌∷◌, map, refl, ap, ◌∙◌, sym}
 use Rattle.std.specs.List.{list_any}
-use Rattle.pdw_ast.specs.declared.expr.SqlExpr.{SqlExpr}
-use Rattle.pdw_ast.specs.declared.expr.SqlExpr.TheFolds.{fold-roll-SqlExpr}
-use Rattle.pdw_ast.specs.declared.expr.SqlExpr.TheOpen.{SqlExpr-F}
-use Rattle.pdw_ast.specs.declared.expr.SqlExpr.TheVariants as e
-use Rattle.pdw_ast.specs.declared.expr.SqlExpr.TheVariants.{rolls-Chain}
+use Rattle.pdw_syntax.specs.declared.expr.SqlExpr.{SqlExpr}
+use Rattle.pdw_syntax.specs.declared.expr.SqlExpr.TheFolds.{fold-roll-SqlExpr}
+use Rattle.pdw_syntax.specs.declared.expr.SqlExpr.TheOpen.{SqlExpr-F}
+use Rattle.pdw_syntax.specs.declared.expr.SqlExpr.TheVariants as e
+use Rattle.pdw_syntax.specs.declared.expr.SqlExpr.TheVariants.{rolls-Chain}
 use Rattle.pdw_expr.specs.declared.scalar.Arith.{Arith}
 use Rattle.pdw_scope.specs.Names.{aggregates_step, has_aggregate}
 

@@ -1,14 +1,14 @@
 -- Conditions that are one conjunct.
 use Rattle.std.proofs.Common.{◌≡◌, ◌⊎◌, inl, inr, Bool, List, [], ◌∷◌, Option, Some, None, is_some, option_map, refl, sym, ap, ◌∙◌}
-use Rattle.pdw_ast.specs.declared.expr.SqlExpr.{SqlExpr}
-use Rattle.pdw_ast.specs.declared.query.JoinPart.{JoinPart}
-use Rattle.pdw_ast.specs.declared.query.Primary.{Primary}
-use Rattle.pdw_ast.specs.declared.query.Primary.TheFolds.{fold-roll-SqlCond}
-use Rattle.pdw_ast.specs.declared.query.Primary.TheOpen.{SqlCond-F}
-use Rattle.pdw_ast.specs.declared.query.Query.{Query, out-Query}
-use Rattle.pdw_ast.specs.declared.query.SqlCond.{SqlCond, roll-SqlCond}
-use Rattle.pdw_ast.specs.declared.query.SqlCond.TheVariants as c
-use Rattle.pdw_ast.specs.declared.query.TableRef.{TableRef}
+use Rattle.pdw_syntax.specs.declared.expr.SqlExpr.{SqlExpr}
+use Rattle.pdw_syntax.specs.declared.query.JoinPart.{JoinPart}
+use Rattle.pdw_syntax.specs.declared.query.Primary.{Primary}
+use Rattle.pdw_syntax.specs.declared.query.Primary.TheFolds.{fold-roll-SqlCond}
+use Rattle.pdw_syntax.specs.declared.query.Primary.TheOpen.{SqlCond-F}
+use Rattle.pdw_syntax.specs.declared.query.Query.{Query, out-Query}
+use Rattle.pdw_syntax.specs.declared.query.SqlCond.{SqlCond, roll-SqlCond}
+use Rattle.pdw_syntax.specs.declared.query.SqlCond.TheVariants as c
+use Rattle.pdw_syntax.specs.declared.query.TableRef.{TableRef}
 use Rattle.pdw_base.specs.declared.truth.Truth.{Truth}
 use Rattle.pdw_expr.specs.declared.cond.Cmp.{Cmp}
 use Rattle.pdw_expr.specs.declared.cond.Cond.{Cond}

@@ -1,10 +1,10 @@
 -- The order keys of a query are judged alike whatever was walked before.
 use Rattle.std.proofs.Common.{◌≡◌, ℕ, ℤ, pos, negsuc, ◌-◌, ◌&&◌, leb, Bool, true, false, List, [], ◌∷◌, ◌++◌, length, map, Result, Ok, Err, refl, sym, ap, ◌∙◌, subst, if◌then◌else◌}
 use Rattle.std.specs.Fmt.{signed_decimal}
-use Rattle.pdw_ast.specs.declared.query.OrderKey.{OrderKey}
-use Rattle.pdw_ast.specs.declared.query.OrderName.{OrderName}
-use Rattle.pdw_ast.specs.declared.query.OrderName.TheVariants.{Name, Position}
-use Rattle.pdw_ast.specs.declared.query.Select.{Select}
+use Rattle.pdw_syntax.specs.declared.query.OrderKey.{OrderKey}
+use Rattle.pdw_syntax.specs.declared.query.OrderName.{OrderName}
+use Rattle.pdw_syntax.specs.declared.query.OrderName.TheVariants.{Name, Position}
+use Rattle.pdw_syntax.specs.declared.query.Select.{Select}
 use Rattle.pdw_catalog.specs.Catalog.{Tables}
 use Rattle.pdw_scope.specs.Queries.{name_of, named_place, order_key, order_place, ordered, place_at, places, query, select}
 use Rattle.pdw_scope.specs.Statements.{Answers, answer_of}

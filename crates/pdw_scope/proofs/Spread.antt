@@ -1,7 +1,7 @@
 -- Steps over lists that are made of other lists.
 use Rattle.std.proofs.Common.{◌≡◌, List, [], ◌∷◌, ◌++◌, map, Bool, ◌||◌, refl, sym, ap, ◌∙◌}
 use Rattle.std.specs.List.{flat_map, list_any}
-use Rattle.pdw_ast.specs.declared.query.SqlCond.{SqlCond}
+use Rattle.pdw_syntax.specs.declared.query.SqlCond.{SqlCond}
 use Rattle.pdw_scope.specs.Conds.{any_nested}
 use Rattle.pdw_scope.specs.Queries.{condition}
 use Rattle.pdw_scope.specs.Walk.{Walk, Outcome, done, refused, Step, ◌>>=◌, over, gathering, and_then}

@@ -1,8 +1,8 @@
 -- Search conditions (SQL-92, 8.2 to 8.12): operands from left to right, and then their types.
 use Rattle.std.specs.Prelude.{Bool, true, false, List, [], ◌∷◌, map, Option, Some, None, if◌then◌else◌}
 use Rattle.std.specs.List.{flat_map, list_any}
-use Rattle.pdw_ast.specs.declared.query.Primary.TheOpen.{SqlCond-F}
-use Rattle.pdw_ast.specs.declared.expr.SqlExpr.{SqlExpr}
+use Rattle.pdw_syntax.specs.declared.query.Primary.TheOpen.{SqlCond-F}
+use Rattle.pdw_syntax.specs.declared.expr.SqlExpr.{SqlExpr}
 use Rattle.pdw_base.specs.declared.truth.Truth.{Truth}
 use Rattle.pdw_base.specs.declared.value.Kind.TheVariants as kind
 use Rattle.pdw_catalog.specs.Catalog.{Tables}

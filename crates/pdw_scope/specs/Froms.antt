@@ -1,8 +1,8 @@
 -- FROM (SQL-92, 6.3 and 7.5): its elements from left to right, and the columns that they give.
 use Rattle.std.specs.Prelude.{ℕ, ◌==◌, false, List, [], ◌∷◌, ◌++◌, map, Option, Some, None, if◌then◌else◌}
 use Rattle.std.specs.List.{enumerate_from, flat_map}
-use Rattle.pdw_ast.specs.declared.query.JoinWord.{JoinWord}
-use Rattle.pdw_ast.specs.declared.query.Primary.TheOpen.{Primary-F, JoinPart-F, TableRef-F}
+use Rattle.pdw_syntax.specs.declared.query.JoinWord.{JoinWord}
+use Rattle.pdw_syntax.specs.declared.query.Primary.TheOpen.{Primary-F, JoinPart-F, TableRef-F}
 use Rattle.pdw_base.specs.declared.schema.ColId.{ColId}
 use Rattle.pdw_catalog.specs.Catalog.{Tables, table_named}
 use Rattle.pdw_catalog.specs.declared.table.Column.{Column as TableColumn}

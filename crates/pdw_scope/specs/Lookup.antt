@@ -2,7 +2,7 @@
 use Rattle.std.specs.Prelude.{ℕ, ◌&&◌, Bool, true, not, List, [], ◌∷◌, ◌++◌, Option, Some, None, codes, if◌then◌else◌}
 use Rattle.std.specs.List.{filter, list_any}
 use Rattle.std.specs.Str.{bytes_eq}
-use Rattle.pdw_ast.specs.declared.expr.ColRef.{ColRef}
+use Rattle.pdw_syntax.specs.declared.expr.ColRef.{ColRef}
 use Rattle.pdw_scope.specs.Slot.{same_slot}
 use Rattle.pdw_scope.specs.Walk.{Step, ◌>>◌, ◌<$>◌, pure, refuse, refuse_if, number_of, meet_outer}
 use Rattle.pdw_scope.specs.declared.entry.Entry.{Entry}

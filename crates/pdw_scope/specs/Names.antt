@@ -1,14 +1,14 @@
 -- What the parts of a query are by their words alone: names of output columns, bare columns, aggregates.
 use Rattle.std.specs.Prelude.{ℕ, ◌||◌, Bool, true, false, List, [], ◌∷◌, ◌++◌, Option, Some, None, codes, decimal}
 use Rattle.std.specs.List.{list_any}
-use Rattle.pdw_ast.specs.declared.expr.ColRef.{ColRef}
-use Rattle.pdw_ast.specs.declared.expr.SqlExpr.{SqlExpr}
-use Rattle.pdw_ast.specs.declared.expr.SqlExpr.TheOpen.{SqlExpr-F}
-use Rattle.pdw_ast.specs.declared.expr.SqlExpr.TheFolds.{fold-SqlExpr}
-use Rattle.pdw_ast.specs.declared.query.Item.{Item}
-use Rattle.pdw_ast.specs.declared.query.Item.TheVariants.{AliasStar, Made}
-use Rattle.pdw_ast.specs.declared.query.Items.{Items}
-use Rattle.pdw_ast.specs.declared.query.Items.TheVariants.{Star, List as Listed}
+use Rattle.pdw_syntax.specs.declared.expr.ColRef.{ColRef}
+use Rattle.pdw_syntax.specs.declared.expr.SqlExpr.{SqlExpr}
+use Rattle.pdw_syntax.specs.declared.expr.SqlExpr.TheOpen.{SqlExpr-F}
+use Rattle.pdw_syntax.specs.declared.expr.SqlExpr.TheFolds.{fold-SqlExpr}
+use Rattle.pdw_syntax.specs.declared.query.Item.{Item}
+use Rattle.pdw_syntax.specs.declared.query.Item.TheVariants.{AliasStar, Made}
+use Rattle.pdw_syntax.specs.declared.query.Items.{Items}
+use Rattle.pdw_syntax.specs.declared.query.Items.TheVariants.{Star, List as Listed}
 
 -- whether an aggregate stands in an expression
 abbrev pub aggregates_step : SqlExpr-F Bool → Bool

@@ -2,11 +2,11 @@
 use Rattle.std.specs.Prelude.{◌≡◌, ◌≢◌, ℕ, ℤ, pos, negsuc, ◌==◌, ◌&&◌, leb, Bool, List, [], ◌∷◌, ◌++◌, length, position, Option, Some, None, Result, Ok, Err, is_some, unsigned_abs, codes, not, false}
 use Rattle.std.specs.List.{list_any}
 use Rattle.std.specs.Str.{bytes_eq}
-use Rattle.pdw_ast.specs.declared.query.Select.{Select}
-use Rattle.pdw_ast.specs.declared.statement.CostPart.{CostPart}
-use Rattle.pdw_ast.specs.declared.statement.CostPart.TheVariants as cost
-use Rattle.pdw_ast.specs.declared.statement.Statement.{Statement}
-use Rattle.pdw_ast.specs.declared.statement.Statement.TheVariants as s
+use Rattle.pdw_syntax.specs.declared.query.Select.{Select}
+use Rattle.pdw_syntax.specs.declared.statement.CostPart.{CostPart}
+use Rattle.pdw_syntax.specs.declared.statement.CostPart.TheVariants as cost
+use Rattle.pdw_syntax.specs.declared.statement.Statement.{Statement}
+use Rattle.pdw_syntax.specs.declared.statement.Statement.TheVariants as s
 use Rattle.pdw_catalog.specs.Catalog.{Tables, table_named}
 use Rattle.pdw_catalog.specs.declared.table.Column.{Column}
 use Rattle.pdw_catalog.specs.declared.table.Placing.{Placing}

@@ -16,9 +16,9 @@ use crate::exprs::expr;
 use crate::fault::JudgeFault;
 use crate::place::Place;
 use crate::walk::Walk;
-use pdw_ast::{SqlCond, SqlExpr};
 use pdw_base::{Kind, NoMemory, Truth};
 use pdw_expr::{Cmp, Cond, Scalar};
+use pdw_syntax::{SqlCond, SqlExpr};
 use sqlite_items::{Boxed, Items as ListOf};
 use std::alloc::{AllocError, Global};
 

@@ -1,9 +1,9 @@
 //! What a walk keeps of the columns that it meets.
 
 use crate::judged::{JItem, JSub, JudgedQuery};
-use pdw_ast::JoinWord;
 use pdw_base::{ColId, Kind, Str};
 use pdw_expr::{Cond, Scalar};
+use pdw_syntax::JoinWord;
 use sqlite_items::{Boxed, Items as ListOf};
 
 /// What a number stands for.

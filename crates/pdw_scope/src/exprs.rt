@@ -12,9 +12,9 @@ use crate::fault::JudgeFault;
 use crate::lookup::column;
 use crate::place::Place;
 use crate::walk::Walk;
-use pdw_ast::{ColRef, SqlExpr};
 use pdw_base::{Kind, NoMemory, Value};
 use pdw_expr::{Agg, AggKind, Arith, Scalar};
+use pdw_syntax::{ColRef, SqlExpr};
 use sqlite_items::{Boxed, Items as ListOf};
 use std::alloc::Global;
 

@@ -18,9 +18,9 @@ use crate::judged::{JFrom, JGroup, JudgedQuery};
 use crate::lookup::column;
 use crate::place::Place;
 use crate::walk::Walk;
-use pdw_ast::{ColRef, Query};
 use pdw_base::ColId;
 use pdw_expr::{Agg, Cond};
+use pdw_syntax::{ColRef, Query};
 use sqlite_items::Items as ListOf;
 use std::alloc::{AllocError, Global};
 

@@ -17,9 +17,9 @@ use crate::names::item_name;
 use crate::place::Place;
 use crate::text::text_from;
 use crate::walk::Walk;
-use pdw_ast::{Item, Items, SqlExpr};
 use pdw_base::{Kind, NoMemory, Str};
 use pdw_expr::Scalar;
+use pdw_syntax::{Item, Items, SqlExpr};
 use sqlite_items::Items as ListOf;
 use std::alloc::Global;
 

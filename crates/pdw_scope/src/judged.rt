@@ -1,7 +1,7 @@
-use pdw_ast::{CostPart, JoinWord};
 use pdw_base::{ColId, Str};
 use pdw_catalog::Table;
 use pdw_expr::{Agg, Cond, Scalar};
+use pdw_syntax::{CostPart, JoinWord};
 use sqlite_items::{Boxed, Items as ListOf};
 
 /// An element of FROM.

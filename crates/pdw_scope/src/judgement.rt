@@ -10,9 +10,9 @@ use crate::fault::JudgeFault;
 use crate::judged::Judged;
 use crate::select::judge_select;
 use crate::settings::{budget_setting, cost_setting, hand};
-use pdw_ast::{Select, Statement};
 use pdw_base::Str;
 use pdw_catalog::Catalog;
+use pdw_syntax::{Select, Statement};
 use std::alloc::Global;
 
 // What is done with a table, which has to be there.

@@ -11,8 +11,8 @@ use crate::fault::JudgeFault;
 use crate::place::Place;
 use crate::text::text_from;
 use crate::walk::Walk;
-use pdw_ast::ColRef;
 use pdw_base::{NoMemory, Str};
+use pdw_syntax::ColRef;
 use sqlite_items::Items as ListOf;
 use std::alloc::Global;
 

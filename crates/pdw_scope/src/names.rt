@@ -3,13 +3,13 @@
 ghost use Rattle.std.specs.Prelude.{◌≡◌, IfOk, is_some};
 ghost use Rattle.std.specs.List.{list_any};
 ghost use Rattle.std.specs.Option.{option_copied};
-ghost use Rattle.pdw_ast.specs.declared.query.Query.{out-Query};
+ghost use Rattle.pdw_syntax.specs.declared.query.Query.{out-Query};
 ghost use Rattle.pdw_scope.specs.Names as spec;
 
 use crate::text::text_from;
-use pdw_ast::{Item, Items, Query, SqlExpr};
 use pdw_base::{NoMemory, Str};
 use pdw_expr::Arith;
+use pdw_syntax::{Item, Items, Query, SqlExpr};
 use std::alloc::Global;
 
 // Whether an aggregate stands in an expression.

@@ -10,8 +10,8 @@ use crate::entry::{Column, Walked};
 use crate::fault::JudgeFault;
 use crate::judged::JudgedSelect;
 use crate::text::text_from;
-use pdw_ast::{OrderKey, OrderName};
 use pdw_base::Str;
+use pdw_syntax::{OrderKey, OrderName};
 use sqlite_items::Items as ListOf;
 use std::alloc::Global;
 

@@ -22,9 +22,9 @@ use crate::judged::JSub;
 use crate::names::is_grouped;
 use crate::place::Place;
 use crate::walk::Walk;
-use pdw_ast::{JoinPart, Primary, Query, SqlCond, SqlExpr, TableRef};
 use pdw_base::Str;
 use pdw_catalog::Catalog;
+use pdw_syntax::{JoinPart, Primary, Query, SqlCond, SqlExpr, TableRef};
 use sqlite_items::Items as ListOf;
 use std::alloc::Global;
 

@@ -10,8 +10,8 @@ use crate::judged::JudgedSelect;
 use crate::order::ordered;
 use crate::queries::query;
 use crate::walk::Walk;
-use pdw_ast::Select;
 use pdw_catalog::Catalog;
+use pdw_syntax::Select;
 use std::alloc::Global;
 
 // A SELECT: its query, and then its order keys.

@@ -10,9 +10,9 @@ use crate::columns::place_of_column;
 use crate::fault::{JudgeFault, MOST_BUDGET, MOST_COST, MOST_STATISTIC, MOST_WIDTH};
 use crate::judged::Judged;
 use crate::text::text_from;
-use pdw_ast::CostPart;
 use pdw_base::Str;
 use pdw_catalog::{Catalog, Column};
+use pdw_syntax::CostPart;
 use sqlite_items::Items as ListOf;
 use std::alloc::Global;
 

@@ -3,10 +3,10 @@
 use super::numbered;
 use super::queries::tables_of;
 use crate::reading::read_script;
-use pdw_ast::Statement;
 use pdw_catalog::Appliance;
 use pdw_engine::Session;
 use pdw_scope::{JudgeFault, Judged, judge};
+use pdw_syntax::Statement;
 use std::alloc::{AllocError, Global};
 use std::process::Abort;
 use std::test::Fail;

@@ -1,13 +1,13 @@
 //! Judged statements as texts: columns are `#` and their numbers.
 
 use itoa::Buffer;
-use pdw_ast::{CostPart, JoinWord};
 use pdw_base::{ColId, Str, Truth, Value};
 use pdw_catalog::{Placing, Table};
 use pdw_expr::{Agg, AggKind, Arith, Cmp, Cond, Scalar};
 use pdw_scope::{
     JFrom, JGroup, JItem, JSub, JudgeFault, Judged, JudgedQuery, JudgedSelect, LimitName,
 };
+use pdw_syntax::{CostPart, JoinWord};
 use std::alloc::AllocError;
 
 fn arith(operator: Arith) -> &'static str {

@@ -2,19 +2,19 @@
 
 ghost use Rattle.std.specs.Prelude.{◌≡◌, true};
 ghost use Rattle.std.specs.List.{list_all};
-ghost use Rattle.pdw_bind.specs.Written.{statement_written};
+ghost use Rattle.pdw_syntax.specs.Written.{statement_written};
 
 use super::text_of;
 use crate::reading::read_script;
 use crate::status::Status;
 use crate::step::run_statements;
 use crate::text::push_rows;
-use pdw_ast::Statement;
 use pdw_base::{NodeCount, Str};
 use pdw_catalog::Appliance;
 use pdw_engine::Session;
 use pdw_meaning::plain_answer;
 use pdw_outside::{HonestFiles, HonestSink};
+use pdw_syntax::Statement;
 use std::alloc::Global;
 use std::str;
 use std::test::Fail;

@@ -3,11 +3,12 @@
 ghost use Rattle.std.specs.Prelude.{◌≡◌, ◌∷◌, codes, map, IfOk, OnOk};
 ghost use Rattle.std.specs.List.{flat_map};
 ghost use Rattle.pdw_lex.specs.declared.sign.Sign.TheVariants as s;
-ghost use Rattle.pdw_ast.specs.Prints.{IsWritten, MeansAlone};
+ghost use Rattle.pdw_ast.specs.Prints.{MeansAlone};
+ghost use Rattle.pdw_syntax.specs.Texts.{IsWritten};
 ghost use Rattle.pdw_ast.specs.Puts.{puts};
 ghost use Rattle.pdw_ast.specs.Spelling as spec;
 ghost use Rattle.pdw_ast.specs.Written.{sign, word};
-ghost use Rattle.pdw_ast.specs.declared.statement.Statement.TheVariants as is;
+ghost use Rattle.pdw_syntax.specs.declared.statement.Statement.TheVariants as is;
 
 use crate::print::queries::print_query;
 use crate::print::words::Words;

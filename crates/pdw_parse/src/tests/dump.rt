@@ -1,12 +1,12 @@
 //! Statements as texts that show their whole trees: chains in brackets, conditions in braces, queries in angles.
 
-use pdw_ast::{
-    ColRef, Item, Items, JoinWord, OrderKey, OrderName, Primary, Query, Select, SqlCond, SqlExpr,
-    Statement, TableRef,
-};
 use pdw_base::{Kind, Str, Truth};
 use pdw_catalog::Column;
 use pdw_expr::{AggKind, Arith, Cmp};
+use pdw_syntax::{
+    ColRef, Item, Items, JoinWord, OrderKey, OrderName, Primary, Query, Select, SqlCond, SqlExpr,
+    Statement, TableRef,
+};
 use std::alloc::Global;
 use std::test::Fail;
 

@@ -1,8 +1,8 @@
 use Rattle.std.proofs.Common.{◌≡◌, ap, sym, ◌∙◌, Bool, List, drop, Option, Some}
 use Rattle.pdw_lex.specs.declared.keyword.Keyword.TheVariants.{KwOuter}
 use Rattle.pdw_lex.specs.declared.token.Lexeme.{Lexeme}
-use Rattle.pdw_ast.specs.Lexemes.{is_key, outer_of}
-use Rattle.pdw_ast.specs.declared.query.JoinWord.{JoinWord}
+use Rattle.pdw_syntax.specs.Lexemes.{is_key, outer_of}
+use Rattle.pdw_syntax.specs.declared.query.JoinWord.{JoinWord}
 use Rattle.pdw_parse.specs.ReadTables.{outer_by}
 use Rattle.pdw_parse.specs.Reading.{and_then, eat, meaning_of, pure, read}
 use Rattle.pdw_parse.proofs.tables.outer_word.Goals as goal

@@ -1,5 +1,5 @@
 use Rattle.pdw_lex.specs.declared.keyword.Keyword.TheVariants.{KwAnd}
-use Rattle.pdw_ast.specs.Lexemes.{is_key}
+use Rattle.pdw_syntax.specs.Lexemes.{is_key}
 use Rattle.pdw_parse.specs.Levels.{nested}
 use Rattle.pdw_parse.specs.ReadConds.{factor}
 use Rattle.pdw_parse.specs.Reading.{begun_by}

@@ -1,4 +1,4 @@
-use Rattle.pdw_ast.specs.Lexemes.{term_operator_of}
+use Rattle.pdw_syntax.specs.Lexemes.{term_operator_of}
 use Rattle.pdw_parse.specs.Levels.{nested}
 use Rattle.pdw_parse.specs.ReadExprs.{operations, product}
 use Rattle.pdw_parse.specs.Reading.{many}

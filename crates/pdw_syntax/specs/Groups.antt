@@ -1,10 +1,10 @@
 -- What may stand in a pair of parentheses.
 use Rattle.std.specs.Prelude.{List}
-use Rattle.pdw_ast.specs.Rule.{Rule}
-use Rattle.pdw_ast.specs.declared.expr.SqlExpr.{SqlExpr}
-use Rattle.pdw_ast.specs.declared.query.SqlCond.{SqlCond}
-use Rattle.pdw_ast.specs.declared.query.Query.{Query}
-use Rattle.pdw_ast.specs.declared.query.TableRef.{TableRef}
+use Rattle.pdw_syntax.specs.Rule.{Rule}
+use Rattle.pdw_syntax.specs.declared.expr.SqlExpr.{SqlExpr}
+use Rattle.pdw_syntax.specs.declared.query.SqlCond.{SqlCond}
+use Rattle.pdw_syntax.specs.declared.query.Query.{Query}
+use Rattle.pdw_syntax.specs.declared.query.TableRef.{TableRef}
 
 -- the texts of each kind that parentheses may hold
 pub record Groups : Type 1 where

@@ -1,15 +1,14 @@
 -- What the texts of a rule of the grammar mean passes a test, where no literal is too long.
-use Rattle.std.proofs.Common.{◌≡◌, ◌&&◌, leb, Bool, true, List, [], ◌∷◌, length, Option, Some, None, refl}
+use Rattle.std.proofs.Common.{◌≡◌, ◌&&◌, leb, Bool, true, List, [], ◌∷◌, ◌++◌, length, Option, Some, None, refl}
 use Rattle.std.specs.Bool.{⊤}
 use Rattle.std.specs.List.{AllByRecursion, list_all}
 use Rattle.std.proofs.lemmas.Bool.{and_from}
-use Rattle.pdw_ast.specs.Exprs.{listed}
-use Rattle.pdw_ast.specs.Rule.{Empty, empty, One, one, Then, both, Either, first, second, Maybe, absent, present, Many, none, more, Enclosed, enclosed}
+use Rattle.pdw_syntax.specs.Exprs.{listed}
+use Rattle.pdw_syntax.specs.Rule.{Empty, empty, One, one, Then, both, Either, first, second, Maybe, absent, present, Many, none, more, Enclosed, enclosed}
 use Rattle.pdw_catalog.specs.declared.table.TheConstants.{MOST_TEXT_BYTES}
 use Rattle.pdw_lex.specs.declared.sign.Sign.TheVariants.{ParenClose}
 use Rattle.pdw_lex.specs.declared.token.Lexeme.{Lexeme}
 use Rattle.pdw_lex.specs.declared.token.Lexeme.TheVariants as lexeme
-use Rattle.pdw_meaning.proofs.WalkLaws.{all-left, all-right}
 
 -- a literal is not too long
 abbrev pub Short : Lexeme → Type 0
@@ -19,6 +18,16 @@ Short _ = ⊤
 -- what each text of the rule means passes the test, where the literals of the text are short
 pub record Gives {A : Type 0} (R : List Lexeme → A → Type 0) (test : A → Bool) : Type 0 where
   pub from : (w : List Lexeme) (a : A) → AllByRecursion Short w → R w a → test a ≡ true
+
+-- ---- of a text that is cut in two, each part
+
+all-left : {X : Type 0} (P : X → Type 0) (xs ys : List X) → AllByRecursion P (xs ++ ys) → AllByRecursion P xs
+all-left P [] ys all = tt
+all-left P (x ∷ xs) ys all = (all.0, all-left P xs ys all.1)
+
+all-right : {X : Type 0} (P : X → Type 0) (xs ys : List X) → AllByRecursion P (xs ++ ys) → AllByRecursion P ys
+all-right P [] ys all = all
+all-right P (x ∷ xs) ys all = all-right P xs ys all.1
 
 -- ---- no lexeme, and one
 

@@ -20,13 +20,13 @@ use Rattle.pdw_lex.specs.declared.sign.Sign.{Sign}
 use Rattle.pdw_lex.specs.declared.sign.Sign.TheVariants as signs
 use Rattle.pdw_lex.specs.declared.token.Lexeme.{Lexeme}
 use Rattle.pdw_lex.specs.declared.token.Lexeme.TheVariants as lexeme
-use Rattle.pdw_ast.specs.Rule.{Rule, One}
-use Rattle.pdw_ast.specs.declared.query.JoinWord.{JoinWord}
-use Rattle.pdw_ast.specs.declared.query.JoinWord.TheVariants as join
-use Rattle.pdw_ast.specs.declared.query.OrderName.{OrderName}
-use Rattle.pdw_ast.specs.declared.query.OrderName.TheVariants as order
-use Rattle.pdw_ast.specs.declared.statement.CostPart.{CostPart}
-use Rattle.pdw_ast.specs.declared.statement.CostPart.TheVariants as cost
+use Rattle.pdw_syntax.specs.Rule.{Rule, One}
+use Rattle.pdw_syntax.specs.declared.query.JoinWord.{JoinWord}
+use Rattle.pdw_syntax.specs.declared.query.JoinWord.TheVariants as join
+use Rattle.pdw_syntax.specs.declared.query.OrderName.{OrderName}
+use Rattle.pdw_syntax.specs.declared.query.OrderName.TheVariants as order
+use Rattle.pdw_syntax.specs.declared.statement.CostPart.{CostPart}
+use Rattle.pdw_syntax.specs.declared.statement.CostPart.TheVariants as cost
 
 unfoldable pub same_keyword : Keyword → Keyword → Bool
 same_keyword = sameb the_keywords

@@ -2,18 +2,18 @@
 -- at least one element of FROM and one item, and a table with a column.
 use Rattle.std.specs.Prelude.{◌&&◌, leb, Bool, true, false, not, List, [], ◌∷◌, length, Option, Some, None}
 use Rattle.std.specs.List.{list_all}
-use Rattle.pdw_ast.specs.declared.expr.SqlExpr.{SqlExpr}
-use Rattle.pdw_ast.specs.declared.expr.SqlExpr.TheOpen.{SqlExpr-F}
-use Rattle.pdw_ast.specs.declared.expr.SqlExpr.TheFolds.{fold-SqlExpr}
-use Rattle.pdw_ast.specs.declared.query.Item.{Item}
-use Rattle.pdw_ast.specs.declared.query.Item.TheVariants as item
-use Rattle.pdw_ast.specs.declared.query.Items.{Items}
-use Rattle.pdw_ast.specs.declared.query.Items.TheVariants.{Star, List as Listed}
-use Rattle.pdw_ast.specs.declared.query.Primary.TheFolds.{fold-Query}
-use Rattle.pdw_ast.specs.declared.query.Primary.TheOpen.{Primary-F, SqlCond-F, JoinPart-F, Query-F, TableRef-F}
-use Rattle.pdw_ast.specs.declared.query.Query.{Query}
-use Rattle.pdw_ast.specs.declared.statement.Statement.{Statement}
-use Rattle.pdw_ast.specs.declared.statement.Statement.TheVariants as statement
+use Rattle.pdw_syntax.specs.declared.expr.SqlExpr.{SqlExpr}
+use Rattle.pdw_syntax.specs.declared.expr.SqlExpr.TheOpen.{SqlExpr-F}
+use Rattle.pdw_syntax.specs.declared.expr.SqlExpr.TheFolds.{fold-SqlExpr}
+use Rattle.pdw_syntax.specs.declared.query.Item.{Item}
+use Rattle.pdw_syntax.specs.declared.query.Item.TheVariants as item
+use Rattle.pdw_syntax.specs.declared.query.Items.{Items}
+use Rattle.pdw_syntax.specs.declared.query.Items.TheVariants.{Star, List as Listed}
+use Rattle.pdw_syntax.specs.declared.query.Primary.TheFolds.{fold-Query}
+use Rattle.pdw_syntax.specs.declared.query.Primary.TheOpen.{Primary-F, SqlCond-F, JoinPart-F, Query-F, TableRef-F}
+use Rattle.pdw_syntax.specs.declared.query.Query.{Query}
+use Rattle.pdw_syntax.specs.declared.statement.Statement.{Statement}
+use Rattle.pdw_syntax.specs.declared.statement.Statement.TheVariants as statement
 use Rattle.pdw_catalog.specs.declared.table.Column.{Column}
 use Rattle.pdw_catalog.specs.declared.table.TheConstants.{MOST_TEXT_BYTES}
 use Rattle.pdw_expr.specs.declared.agg.AggKind.{AggKind}

@@ -3,13 +3,13 @@ use Rattle.std.specs.Prelude.{ℕ, ℤ, List, Option, Some, None, is_none, codes
 use Rattle.pdw_catalog.specs.declared.table.Column.{Column}
 use Rattle.pdw_lex.specs.declared.keyword.Keyword.TheVariants.{KwCreate, KwDistinct, KwDrop, KwFrom, KwNot, KwNull, KwSet, KwTable, KwUpdate, KwWith}
 use Rattle.pdw_lex.specs.declared.sign.Sign.TheVariants.{Comma, Equal}
-use Rattle.pdw_ast.specs.Rule.{Rule, ◌>>=◌, ◌>>◌, ◌<$>◌, ◌or◌, pure, One, Maybe, Many, Enclosed}
-use Rattle.pdw_ast.specs.Lexemes.{key, sign, word, name, number, text, kind_of, cost_part_of}
-use Rattle.pdw_ast.specs.Groups.{Groups}
-use Rattle.pdw_ast.specs.Exprs.{listed}
-use Rattle.pdw_ast.specs.Queries.{select}
-use Rattle.pdw_ast.specs.declared.statement.Statement.{Statement}
-use Rattle.pdw_ast.specs.declared.statement.Statement.TheVariants as s
+use Rattle.pdw_syntax.specs.Rule.{Rule, ◌>>=◌, ◌>>◌, ◌<$>◌, ◌or◌, pure, One, Maybe, Many, Enclosed}
+use Rattle.pdw_syntax.specs.Lexemes.{key, sign, word, name, number, text, kind_of, cost_part_of}
+use Rattle.pdw_syntax.specs.Groups.{Groups}
+use Rattle.pdw_syntax.specs.Exprs.{listed}
+use Rattle.pdw_syntax.specs.Queries.{select}
+use Rattle.pdw_syntax.specs.declared.statement.Statement.{Statement}
+use Rattle.pdw_syntax.specs.declared.statement.Statement.TheVariants as s
 
 -- name ( INT or TEXT ) [ NOT NULL ]
 abbrev pub column : Rule Column

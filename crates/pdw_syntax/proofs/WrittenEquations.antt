@@ -3,30 +3,30 @@ use Rattle.std.proofs.Common.{◌≡◌, ◌&&◌, ℕ, ℤ, leb, Bool, true, fa
 use Rattle.std.specs.List.{list_all}
 use Rattle.std.proofs.lemmas.Bool.{and_from}
 use Rattle.std.proofs.lemmas.List.Folds.{list_all-map}
-use Rattle.pdw_ast.specs.Conds.{all_of, any_of, negated_by, tested}
-use Rattle.pdw_ast.specs.Exprs.{chained, with_sign}
-use Rattle.pdw_ast.specs.declared.expr.ColRef.{ColRef}
-use Rattle.pdw_ast.specs.declared.expr.SqlExpr.{SqlExpr}
-use Rattle.pdw_ast.specs.declared.expr.SqlExpr.TheOpen.{SqlExpr-F}
-use Rattle.pdw_ast.specs.declared.expr.SqlExpr.TheFolds.{fold-roll-SqlExpr, map-SqlExpr}
-use Rattle.pdw_ast.specs.declared.expr.SqlExpr.TheVariants as e
-use Rattle.pdw_ast.specs.declared.expr.SqlExpr.TheViews.{roll-SqlExpr}
-use Rattle.pdw_ast.specs.declared.query.Items.{Items}
-use Rattle.pdw_ast.specs.declared.query.JoinPart.{JoinPart, roll-JoinPart}
-use Rattle.pdw_ast.specs.declared.query.JoinWord.{JoinWord}
-use Rattle.pdw_ast.specs.declared.query.JoinWord.TheVariants.{Cross}
-use Rattle.pdw_ast.specs.declared.query.Primary.{Primary}
-use Rattle.pdw_ast.specs.declared.query.Primary.TheFolds.{fold-Primary, fold-SqlCond, fold-JoinPart, fold-TableRef, fold-roll-Primary, fold-roll-SqlCond, fold-roll-JoinPart, fold-roll-Query, fold-roll-TableRef, map-Primary, map-SqlCond}
-use Rattle.pdw_ast.specs.declared.query.Primary.TheOpen.{Primary-F, SqlCond-F, Query-F}
-use Rattle.pdw_ast.specs.declared.query.Primary.TheVariants as p
-use Rattle.pdw_ast.specs.declared.query.Primary.TheViews.{roll-Primary, roll-SqlCond}
-use Rattle.pdw_ast.specs.declared.query.Query.{Query, roll-Query}
-use Rattle.pdw_ast.specs.declared.query.SqlCond.{SqlCond}
-use Rattle.pdw_ast.specs.declared.query.SqlCond.TheVariants as c
-use Rattle.pdw_ast.specs.declared.query.TableRef.{TableRef, roll-TableRef}
+use Rattle.pdw_syntax.specs.Conds.{all_of, any_of, negated_by, tested}
+use Rattle.pdw_syntax.specs.Exprs.{chained, with_sign}
+use Rattle.pdw_syntax.specs.declared.expr.ColRef.{ColRef}
+use Rattle.pdw_syntax.specs.declared.expr.SqlExpr.{SqlExpr}
+use Rattle.pdw_syntax.specs.declared.expr.SqlExpr.TheOpen.{SqlExpr-F}
+use Rattle.pdw_syntax.specs.declared.expr.SqlExpr.TheFolds.{fold-roll-SqlExpr, map-SqlExpr}
+use Rattle.pdw_syntax.specs.declared.expr.SqlExpr.TheVariants as e
+use Rattle.pdw_syntax.specs.declared.expr.SqlExpr.TheViews.{roll-SqlExpr}
+use Rattle.pdw_syntax.specs.declared.query.Items.{Items}
+use Rattle.pdw_syntax.specs.declared.query.JoinPart.{JoinPart, roll-JoinPart}
+use Rattle.pdw_syntax.specs.declared.query.JoinWord.{JoinWord}
+use Rattle.pdw_syntax.specs.declared.query.JoinWord.TheVariants.{Cross}
+use Rattle.pdw_syntax.specs.declared.query.Primary.{Primary}
+use Rattle.pdw_syntax.specs.declared.query.Primary.TheFolds.{fold-Primary, fold-SqlCond, fold-JoinPart, fold-TableRef, fold-roll-Primary, fold-roll-SqlCond, fold-roll-JoinPart, fold-roll-Query, fold-roll-TableRef, map-Primary, map-SqlCond}
+use Rattle.pdw_syntax.specs.declared.query.Primary.TheOpen.{Primary-F, SqlCond-F, Query-F}
+use Rattle.pdw_syntax.specs.declared.query.Primary.TheVariants as p
+use Rattle.pdw_syntax.specs.declared.query.Primary.TheViews.{roll-Primary, roll-SqlCond}
+use Rattle.pdw_syntax.specs.declared.query.Query.{Query, roll-Query}
+use Rattle.pdw_syntax.specs.declared.query.SqlCond.{SqlCond}
+use Rattle.pdw_syntax.specs.declared.query.SqlCond.TheVariants as c
+use Rattle.pdw_syntax.specs.declared.query.TableRef.{TableRef, roll-TableRef}
 use Rattle.pdw_base.specs.declared.truth.Truth.{Truth}
-use Rattle.pdw_bind.proofs.WrittenRules.{where_written}
-use Rattle.pdw_bind.specs.Written.{cond_written_step, counts_rows, expr_written, expr_written_step, items_written, join_written_step, primary_written_step, query_written, query_written_step, some_elements, table_written_step}
+use Rattle.pdw_syntax.proofs.WrittenRules.{where_written}
+use Rattle.pdw_syntax.specs.Written.{cond_written_step, counts_rows, expr_written, expr_written_step, items_written, join_written_step, primary_written_step, query_written, query_written_step, some_elements, table_written_step}
 use Rattle.pdw_catalog.specs.declared.table.TheConstants.{MOST_TEXT_BYTES}
 use Rattle.pdw_expr.specs.declared.agg.AggKind.{AggKind}
 use Rattle.pdw_expr.specs.declared.agg.AggKind.TheVariants.{CountStar}

@@ -3,20 +3,20 @@ use Rattle.std.specs.Prelude.{Bool, false, List, []}
 use Rattle.std.specs.Option.{unwrap_or}
 use Rattle.pdw_lex.specs.declared.keyword.Keyword.TheVariants.{KwBy, KwFrom, KwGroup, KwHaving, KwOrder, KwSelect, KwWhere}
 use Rattle.pdw_lex.specs.declared.sign.Sign.TheVariants.{Dot, Star}
-use Rattle.pdw_ast.specs.Rule.{Rule, ◌>>=◌, ◌>>◌, ◌<$>◌, ◌or◌, pure, One, Maybe}
-use Rattle.pdw_ast.specs.Lexemes.{key, sign, name, quantifier_of, direction_of, order_name_of}
-use Rattle.pdw_ast.specs.Groups.{Groups}
-use Rattle.pdw_ast.specs.Exprs.{listed, column_reference, expr}
-use Rattle.pdw_ast.specs.Conds.{cond}
-use Rattle.pdw_ast.specs.Tables.{called, tables}
-use Rattle.pdw_ast.specs.declared.expr.ColRef.{ColRef}
-use Rattle.pdw_ast.specs.declared.query.Item.{Item}
-use Rattle.pdw_ast.specs.declared.query.Item.TheVariants.{AliasStar, Made}
-use Rattle.pdw_ast.specs.declared.query.Items.{Items}
-use Rattle.pdw_ast.specs.declared.query.Items.TheVariants as items_are
-use Rattle.pdw_ast.specs.declared.query.OrderKey.{OrderKey}
-use Rattle.pdw_ast.specs.declared.query.Query.{Query, roll-Query}
-use Rattle.pdw_ast.specs.declared.query.Select.{Select}
+use Rattle.pdw_syntax.specs.Rule.{Rule, ◌>>=◌, ◌>>◌, ◌<$>◌, ◌or◌, pure, One, Maybe}
+use Rattle.pdw_syntax.specs.Lexemes.{key, sign, name, quantifier_of, direction_of, order_name_of}
+use Rattle.pdw_syntax.specs.Groups.{Groups}
+use Rattle.pdw_syntax.specs.Exprs.{listed, column_reference, expr}
+use Rattle.pdw_syntax.specs.Conds.{cond}
+use Rattle.pdw_syntax.specs.Tables.{called, tables}
+use Rattle.pdw_syntax.specs.declared.expr.ColRef.{ColRef}
+use Rattle.pdw_syntax.specs.declared.query.Item.{Item}
+use Rattle.pdw_syntax.specs.declared.query.Item.TheVariants.{AliasStar, Made}
+use Rattle.pdw_syntax.specs.declared.query.Items.{Items}
+use Rattle.pdw_syntax.specs.declared.query.Items.TheVariants as items_are
+use Rattle.pdw_syntax.specs.declared.query.OrderKey.{OrderKey}
+use Rattle.pdw_syntax.specs.declared.query.Query.{Query, roll-Query}
+use Rattle.pdw_syntax.specs.declared.query.Select.{Select}
 
 -- [ ALL or DISTINCT ]: whether equal rows are to stand once
 abbrev pub distinct : Rule Bool

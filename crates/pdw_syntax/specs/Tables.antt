@@ -1,17 +1,17 @@
 -- The rules of FROM: SQL-92, 6.3, 7.4 and 7.5.
 use Rattle.std.specs.Prelude.{ℕ, List, Some, None}
 use Rattle.pdw_lex.specs.declared.keyword.Keyword.TheVariants.{KwAs, KwCross, KwInner, KwJoin, KwOn, KwOuter}
-use Rattle.pdw_ast.specs.Rule.{Rule, ◌>>=◌, ◌>>◌, ◌<$>◌, ◌or◌, pure, One, Maybe, Many, Enclosed}
-use Rattle.pdw_ast.specs.Lexemes.{key, name, outer_of}
-use Rattle.pdw_ast.specs.Groups.{Groups}
-use Rattle.pdw_ast.specs.Exprs.{listed}
-use Rattle.pdw_ast.specs.Conds.{cond}
-use Rattle.pdw_ast.specs.declared.query.JoinWord.{JoinWord}
-use Rattle.pdw_ast.specs.declared.query.JoinWord.TheVariants.{Cross, Inner}
-use Rattle.pdw_ast.specs.declared.query.JoinPart.{JoinPart, roll-JoinPart}
-use Rattle.pdw_ast.specs.declared.query.Primary.{Primary}
-use Rattle.pdw_ast.specs.declared.query.Primary.TheVariants as p
-use Rattle.pdw_ast.specs.declared.query.TableRef.{TableRef, roll-TableRef}
+use Rattle.pdw_syntax.specs.Rule.{Rule, ◌>>=◌, ◌>>◌, ◌<$>◌, ◌or◌, pure, One, Maybe, Many, Enclosed}
+use Rattle.pdw_syntax.specs.Lexemes.{key, name, outer_of}
+use Rattle.pdw_syntax.specs.Groups.{Groups}
+use Rattle.pdw_syntax.specs.Exprs.{listed}
+use Rattle.pdw_syntax.specs.Conds.{cond}
+use Rattle.pdw_syntax.specs.declared.query.JoinWord.{JoinWord}
+use Rattle.pdw_syntax.specs.declared.query.JoinWord.TheVariants.{Cross, Inner}
+use Rattle.pdw_syntax.specs.declared.query.JoinPart.{JoinPart, roll-JoinPart}
+use Rattle.pdw_syntax.specs.declared.query.Primary.{Primary}
+use Rattle.pdw_syntax.specs.declared.query.Primary.TheVariants as p
+use Rattle.pdw_syntax.specs.declared.query.TableRef.{TableRef, roll-TableRef}
 
 -- [ AS ] name
 abbrev pub called : Rule (List ℕ)

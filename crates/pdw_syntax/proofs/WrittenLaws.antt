@@ -2,22 +2,20 @@
 use Rattle.std.proofs.Common.{◌≡◌, ℕ, ℤ, zero, suc, ◌+◌, leb, true, not, List, [], ◌∷◌, ◌++◌, length, map, Option, Some, None, refl, sym, subst}
 use Rattle.std.specs.List.{AllByRecursion, list_all}
 use Rattle.std.proofs.lemmas.Bool.{and_parts, le-leb}
-use Rattle.pdw_ast.specs.Conds as conds
-use Rattle.pdw_ast.specs.Exprs as exprs
-use Rattle.pdw_ast.specs.Groups.{Groups}
-use Rattle.pdw_ast.specs.Lexemes.{aggregate_of, key, text, text_of}
-use Rattle.pdw_ast.specs.Prints.{IsWritten, most_open}
-use Rattle.pdw_ast.specs.Queries as queries
-use Rattle.pdw_ast.specs.Rule.{Rule, ◌>>=◌, ◌>>◌, pure, One, Maybe, Many}
-use Rattle.pdw_ast.specs.Statements as statements
-use Rattle.pdw_ast.specs.Tables as tables
-use Rattle.pdw_ast.specs.Texts.{groups, script}
-use Rattle.pdw_ast.specs.declared.expr.SqlExpr.{SqlExpr}
-use Rattle.pdw_ast.specs.declared.statement.Statement.{Statement}
-use Rattle.pdw_ast.proofs.Reprint.{none_not_some}
-use Rattle.pdw_bind.proofs.WrittenEquations.{aggregate_written, all_written, any_written, between_written, chain_written, col_written, compare_written, cond_written, count_written, cross_written, derived_written, exists_written, in_list_written, in_query_written, join_on_written, join_written, like_written, named_written, negated_written, null_written, number_written, paren_cond_written, paren_table_written, paren_written, primary_written, query_parts_written, signed_written, some_tables, table_reference_written, table_written, tested_written, text_written}
-use Rattle.pdw_bind.proofs.WrittenRules.{Gives, Short, after, gives_both, gives_either, gives_enclosed, gives_listed, gives_many, gives_maybe, gives_nothing, gives_one, gives_some, passed, where_written}
-use Rattle.pdw_bind.specs.Written.{counts_rows, expr_written, item_written, items_written, query_written, some_columns, some_items, statement_written}
+use Rattle.pdw_syntax.specs.Conds as conds
+use Rattle.pdw_syntax.specs.Exprs as exprs
+use Rattle.pdw_syntax.specs.Groups.{Groups}
+use Rattle.pdw_syntax.specs.Lexemes.{aggregate_of, key, text, text_of}
+use Rattle.pdw_syntax.specs.Texts.{IsWritten, groups, most_open, script}
+use Rattle.pdw_syntax.specs.Queries as queries
+use Rattle.pdw_syntax.specs.Rule.{Rule, ◌>>=◌, ◌>>◌, pure, One, Maybe, Many}
+use Rattle.pdw_syntax.specs.Statements as statements
+use Rattle.pdw_syntax.specs.Tables as tables
+use Rattle.pdw_syntax.specs.declared.expr.SqlExpr.{SqlExpr}
+use Rattle.pdw_syntax.specs.declared.statement.Statement.{Statement}
+use Rattle.pdw_syntax.proofs.WrittenEquations.{aggregate_written, all_written, any_written, between_written, chain_written, col_written, compare_written, cond_written, count_written, cross_written, derived_written, exists_written, in_list_written, in_query_written, join_on_written, join_written, like_written, named_written, negated_written, null_written, number_written, paren_cond_written, paren_table_written, paren_written, primary_written, query_parts_written, signed_written, some_tables, table_reference_written, table_written, tested_written, text_written}
+use Rattle.pdw_syntax.proofs.WrittenRules.{Gives, Short, after, gives_both, gives_either, gives_enclosed, gives_listed, gives_many, gives_maybe, gives_nothing, gives_one, gives_some, passed, where_written}
+use Rattle.pdw_syntax.specs.Written.{counts_rows, expr_written, item_written, items_written, query_written, some_columns, some_items, statement_written}
 use Rattle.pdw_catalog.specs.declared.table.TheConstants.{MOST_TEXT_BYTES}
 use Rattle.pdw_expr.specs.declared.agg.AggKind.{AggKind}
 use Rattle.pdw_expr.specs.declared.scalar.Arith.{Arith}
@@ -62,6 +60,9 @@ pub record GroupsWritten (g : Groups) : Type 0 where
   pub tables : Gives g.tables table_written
 
 -- ---- value expressions
+
+none_not_some : {A B : Type 0} {x : A} → None ≡ Some x → B
+none_not_some e = cc e
 
 literal_short : Gives text (λ t. leb (length t) MOST_TEXT_BYTES)
 literal_short = gives_one each

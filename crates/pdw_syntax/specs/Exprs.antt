@@ -5,12 +5,12 @@ use Rattle.pdw_expr.specs.declared.agg.AggKind.TheVariants.{CountStar}
 use Rattle.pdw_lex.specs.declared.keyword.Keyword.TheVariants.{KwCount}
 use Rattle.pdw_lex.specs.declared.sign.Sign.TheVariants.{Dot, Comma}
 use Rattle.pdw_lex.specs.declared.token.Lexeme.{Lexeme}
-use Rattle.pdw_ast.specs.Rule.{Rule, ◌>>=◌, ◌>>◌, ◌<$>◌, ◌or◌, pure, One, Maybe, Many, Enclosed}
-use Rattle.pdw_ast.specs.Lexemes.{key, sign, name, number, text, minus_of, aggregate_of, term_operator_of, factor_operator_of}
-use Rattle.pdw_ast.specs.Groups.{Groups}
-use Rattle.pdw_ast.specs.declared.expr.ColRef.{ColRef}
-use Rattle.pdw_ast.specs.declared.expr.SqlExpr.{SqlExpr}
-use Rattle.pdw_ast.specs.declared.expr.SqlExpr.TheVariants as e
+use Rattle.pdw_syntax.specs.Rule.{Rule, ◌>>=◌, ◌>>◌, ◌<$>◌, ◌or◌, pure, One, Maybe, Many, Enclosed}
+use Rattle.pdw_syntax.specs.Lexemes.{key, sign, name, number, text, minus_of, aggregate_of, term_operator_of, factor_operator_of}
+use Rattle.pdw_syntax.specs.Groups.{Groups}
+use Rattle.pdw_syntax.specs.declared.expr.ColRef.{ColRef}
+use Rattle.pdw_syntax.specs.declared.expr.SqlExpr.{SqlExpr}
+use Rattle.pdw_syntax.specs.declared.expr.SqlExpr.TheVariants as e
 
 -- a first text, and further ones after commas
 abbrev pub listed : {A : Type 0} → Rule A → Rule (List A)

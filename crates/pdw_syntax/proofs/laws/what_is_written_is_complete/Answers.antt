@@ -1,5 +1,5 @@
-use Rattle.pdw_bind.proofs.WrittenLaws.{lexed_script_is_written, written}
-use Rattle.pdw_bind.proofs.laws.what_is_written_is_complete.Goals as goal
+use Rattle.pdw_syntax.proofs.WrittenLaws.{lexed_script_is_written, written}
+use Rattle.pdw_syntax.proofs.laws.what_is_written_is_complete.Goals as goal
 
 pub returns-clause-statement : goal.returns-clause-statement
 returns-clause-statement c = written

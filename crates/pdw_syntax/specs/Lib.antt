@@ -1,0 +1,10 @@
+pub mod Rule
+pub mod Lexemes
+pub mod Groups
+pub mod Exprs
+pub mod Conds
+pub mod Tables
+pub mod Queries
+pub mod Statements
+pub mod Texts
+pub mod Written
