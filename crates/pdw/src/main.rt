@@ -1,22 +1,9 @@
 //! The appliance as a program: a script of statements in, rows out.
 #![tactic(auto)]
 
-pub mod laws;
-mod perform;
-mod reading;
-mod refusal;
-pub mod run;
-pub mod status;
-mod step;
-mod stop;
-#[cfg(test)]
-mod tests;
-mod text;
-mod words;
-
 use pdw_base::{NoMemory, Str};
 use pdw_outside::{DiskFiles, StdSink};
-use status::Status;
+use pdw_run::{Status, run};
 use std::alloc::Global;
 use std::process::ExitCode;
 use std::rt::{Env, Files};
@@ -58,7 +45,7 @@ fn run_words<R: Env + Files + Print + AllocGlobal>(rt: &R) -> u8 {
         Ok(words) => {
             let mut files = DiskFiles::new(rt);
             let mut out = StdSink::new(rt);
-            run::run(rt.alloc(), words.as_slice(), &mut files, &mut out).exit_code()
+            run(rt.alloc(), words.as_slice(), &mut files, &mut out).exit_code()
         }
         Err(code) => code,
     }

@@ -11,5 +11,3 @@ pub use local::LocalTree;
 pub use schema::schema_of;
 pub use tree::{MOST_LEAVES, Tree};
 
-#[cfg(test)]
-mod tests;

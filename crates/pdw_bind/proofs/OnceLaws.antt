@@ -11,17 +11,17 @@ use Rattle.pdw_base.specs.Schema.{Env}
 use Rattle.pdw_base.specs.declared.schema.ColId.{ColId}
 use Rattle.pdw_base.specs.declared.value.Value.{Value}
 use Rattle.pdw_base.specs.declared.value.Value.TheVariants.{Null}
-use Rattle.pdw_bind.specs.Bind.{each_item_once, each_number_once, first_of, new_item, new_number}
+use Rattle.pdw_form.specs.Columns.{each_item_once, each_number_once, first_of, new_item, new_number}
 use Rattle.pdw_expr.specs.Env.{union}
 use Rattle.pdw_expr.specs.Parts.{each_once, groups, parts, row_cmp, same_row}
 use Rattle.pdw_expr.specs.Rows.{aggregate_cells, first_row, group_row, grouped, item_value, key_of, projected}
 use Rattle.pdw_expr.specs.declared.agg.Agg.{Agg}
 use Rattle.pdw_expr.specs.declared.scalar.Scalar.{Scalar}
-use Rattle.pdw_meaning.proofs.Distinct.{numbers-same}
-use Rattle.pdw_meaning.proofs.PartLemmas.{each_once-more, each_once-nil}
-use Rattle.pdw_meaning.specs.Numbered.{distinct_rows, items_of, outs_of}
-use Rattle.pdw_meaning.specs.Parts.{put_once}
-use Rattle.pdw_scope.specs.declared.judged.JItem.{JItem}
+use Rattle.pdw_form.proofs.Distinct.{numbers-same}
+use Rattle.pdw_expr.proofs.PartLemmas.{each_once-more, each_once-nil}
+use Rattle.pdw_form.specs.Numbered.{distinct_rows, items_of, outs_of}
+use Rattle.pdw_expr.specs.Rising.{put_once}
+use Rattle.pdw_form.specs.declared.judged.JItem.{JItem}
 
 -- ---- parts by the order of their keys alone
 

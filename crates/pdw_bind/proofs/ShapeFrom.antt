@@ -15,13 +15,13 @@ use Rattle.pdw_base.specs.declared.schema.ColId.{ColId}
 use Rattle.pdw_bind.proofs.ShapeLeaves.{LeavesSound, leaves_both, leaves_more, leaves_none, leaves_one}
 use Rattle.pdw_bind.proofs.ShapeSteps.{shape-block, shape-join}
 use Rattle.pdw_bind.specs.Bind.{Part, all_parts, block_of, joined, leaf, outer_join, together, unit_of}
-use Rattle.pdw_bind.specs.Sound as sound
-use Rattle.pdw_bind.specs.Sound.{ElementShape, block_join, fit_block, from_columns, from_leaves, from_sound, joined_shape, sides_sound}
+use Rattle.pdw_form.specs.Sound as sound
+use Rattle.pdw_form.specs.Sound.{ElementShape, block_join, fit_block, from_columns, from_leaves, from_sound, joined_shape, sides_sound}
 use Rattle.pdw_catalog.specs.Catalog.{Tables}
 use Rattle.pdw_expr.specs.declared.agg.JoinKind.TheVariants as kind
 use Rattle.pdw_expr.specs.declared.agg.JoinKind.{JoinKind}
 use Rattle.pdw_expr.specs.declared.cond.Cond.{Cond}
-use Rattle.pdw_meaning.proofs.Related.{Related, none, more}
+use Rattle.pdw_form.proofs.Related.{Related, none, more}
 
 abbrev pub shapes : Tables → List Tree → List Shape
 shapes tables leaves = map (shape_of tables) leaves

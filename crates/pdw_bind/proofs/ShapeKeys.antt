@@ -10,9 +10,9 @@ use Rattle.pdw_algebra.specs.Shape.{has_number, item_column, item_kind, key_colu
 use Rattle.pdw_base.specs.Schema.{Columns}
 use Rattle.pdw_base.specs.declared.schema.ColId.{ColId}
 use Rattle.pdw_base.specs.declared.value.Kind.{Kind}
-use Rattle.pdw_bind.specs.Bind.{each_item_once, each_number_once, new_item, new_number}
+use Rattle.pdw_form.specs.Columns.{each_item_once, each_number_once, new_item, new_number}
 use Rattle.pdw_expr.specs.declared.scalar.Scalar.{Scalar}
-use Rattle.pdw_scope.specs.declared.judged.JItem.{JItem}
+use Rattle.pdw_form.specs.declared.judged.JItem.{JItem}
 
 abbrev Item : Type 0
 Item = ColId × Option Scalar

@@ -16,16 +16,17 @@ use Rattle.pdw_bind.proofs.ShapeKeys.{first-output, items_hold, keys-columns, ke
 use Rattle.pdw_bind.proofs.ShapeSteps.{kind-column, shape-filter, shape-groups, shape-project}
 use Rattle.pdw_bind.proofs.ShapeSubqueries.{QueryFits, SubqueryFits, TreesSound}
 use Rattle.pdw_bind.specs.Bind as bind
-use Rattle.pdw_bind.specs.Bind.{Bound, Part, block_of, distinct_if, each_item_once, each_number_once, filtered, first_of, grouped, item_scalar}
-use Rattle.pdw_bind.specs.Sound as sound
-use Rattle.pdw_bind.specs.Sound.{ElementShape, QueryShape, SubqueryShape, from_columns, from_sound, group_columns, group_made, group_sound, items_made, judged_kind, kind_of_first, output_columns, where_sound}
+use Rattle.pdw_bind.specs.Bind.{Bound, Part, block_of, distinct_if, filtered, grouped, item_scalar}
+use Rattle.pdw_form.specs.Columns.{each_item_once, each_number_once, first_of}
+use Rattle.pdw_form.specs.Sound as sound
+use Rattle.pdw_form.specs.Sound.{ElementShape, QueryShape, SubqueryShape, from_columns, from_sound, group_columns, group_made, group_sound, items_made, judged_kind, kind_of_first, output_columns, where_sound}
 use Rattle.pdw_catalog.specs.Catalog.{Tables}
 use Rattle.pdw_expr.specs.declared.cond.Cond.{Cond}
 use Rattle.pdw_expr.specs.declared.scalar.Scalar.{Scalar}
-use Rattle.pdw_meaning.proofs.Related.{Related, none, more}
-use Rattle.pdw_scope.specs.declared.judged.JFrom.TheOpen.{JudgedQuery-F}
-use Rattle.pdw_scope.specs.declared.judged.JGroup.{JGroup}
-use Rattle.pdw_scope.specs.declared.judged.JItem.{JItem}
+use Rattle.pdw_form.proofs.Related.{Related, none, more}
+use Rattle.pdw_form.specs.declared.judged.JFrom.TheOpen.{JudgedQuery-F}
+use Rattle.pdw_form.specs.declared.judged.JGroup.{JGroup}
+use Rattle.pdw_form.specs.declared.judged.JItem.{JItem}
 
 module _ (tables : Tables) where
   -- ---- the subqueries, one after another

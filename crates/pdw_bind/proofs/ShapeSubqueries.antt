@@ -10,13 +10,13 @@ use Rattle.pdw_base.specs.declared.truth.Truth.TheVariants as truth
 use Rattle.pdw_bind.proofs.ShapeKinds.{carried_same, scalar_carried, within_left, within_right}
 use Rattle.pdw_bind.proofs.ShapeSteps.{shape-join, typed-comparison, typed-not, typed-test}
 use Rattle.pdw_bind.specs.Bind.{Bound, equality, in_condition, item_scalar, subquery_join, subquery_kind, subquery_tree}
-use Rattle.pdw_bind.specs.Sound.{QueryShape, SubqueryShape, left_fits, subquery_columns, subquery_made, subquery_sound}
+use Rattle.pdw_form.specs.Sound.{QueryShape, SubqueryShape, left_fits, subquery_columns, subquery_made, subquery_sound}
 use Rattle.pdw_catalog.specs.Catalog.{Tables}
 use Rattle.pdw_expr.specs.declared.cond.Cmp.TheVariants.{Eq}
 use Rattle.pdw_expr.specs.declared.cond.Cond.TheVariants as cond
 use Rattle.pdw_expr.specs.declared.cond.Cond.{Cond}
 use Rattle.pdw_expr.specs.declared.scalar.Scalar.{Scalar}
-use Rattle.pdw_scope.specs.declared.judged.JItem.{JItem}
+use Rattle.pdw_form.specs.declared.judged.JItem.{JItem}
 
 -- what a subquery's join makes of a tree
 pub record SubqueryFits (tables : Tables) (join : Tree → Tree) (sub : SubqueryShape) : Type 0 where

@@ -16,7 +16,8 @@ use Rattle.pdw_base.specs.declared.value.Value.{Value}
 use Rattle.pdw_bind.proofs.OnceLaws.{items_once}
 use Rattle.pdw_algebra.proofs.WithinLaws.{UsesOnly, meets-append, union-swapped, value-left, value-right}
 use Rattle.pdw_algebra.specs.Within.{AllWithin, IsWithin}
-use Rattle.pdw_bind.specs.Bind.{Bound, each_item_once, equality, first_of, in_condition, item_scalar, subquery_kind}
+use Rattle.pdw_bind.specs.Bind.{Bound, equality, in_condition, item_scalar, subquery_kind}
+use Rattle.pdw_form.specs.Columns.{each_item_once, first_of}
 use Rattle.pdw_expr.specs.Columns.{scalar_columns, scalar_columns_step}
 use Rattle.pdw_expr.specs.Comparison.{comparison}
 use Rattle.pdw_expr.specs.Cond.{truth_of, truth_step}
@@ -35,15 +36,15 @@ use Rattle.pdw_expr.specs.declared.scalar.Scalar.{Scalar}
 use Rattle.pdw_expr.specs.declared.scalar.Scalar.TheOpen.{Scalar-F}
 use Rattle.pdw_expr.specs.declared.scalar.Scalar.TheFolds.{fold-roll-Scalar}
 use Rattle.pdw_expr.specs.declared.scalar.Scalar.TheVariants.{Col, rolls-Col}
-use Rattle.pdw_meaning.proofs.Distinct.{distinct-values, tied}
-use Rattle.pdw_meaning.proofs.Once.{once}
-use Rattle.pdw_meaning.proofs.PartLemmas.{each_once-more, each_once-nil}
-use Rattle.pdw_meaning.specs.Conds.{first_column, has_rows, is_one_of, negated_if}
-use Rattle.pdw_meaning.specs.Numbered.{NumberedMeaning, distinct_rows, group_rows, items_of, outs_of, row_values, subquery_holds}
-use Rattle.pdw_meaning.specs.Parts.{put_once}
-use Rattle.pdw_meaning.specs.Queries.{distinct_if}
-use Rattle.pdw_scope.specs.declared.judged.JGroup.{JGroup}
-use Rattle.pdw_scope.specs.declared.judged.JItem.{JItem}
+use Rattle.pdw_form.proofs.Distinct.{distinct-values, tied}
+use Rattle.pdw_form.proofs.Once.{once}
+use Rattle.pdw_expr.proofs.PartLemmas.{each_once-more, each_once-nil}
+use Rattle.pdw_expr.specs.Predicates.{first_column, has_rows, is_one_of, negated_if}
+use Rattle.pdw_form.specs.Numbered.{NumberedMeaning, distinct_rows, group_rows, items_of, outs_of, row_values, subquery_holds}
+use Rattle.pdw_expr.specs.Rising.{put_once}
+use Rattle.pdw_expr.specs.Predicates.{distinct_if}
+use Rattle.pdw_form.specs.declared.judged.JGroup.{JGroup}
+use Rattle.pdw_form.specs.declared.judged.JItem.{JItem}
 
 -- ---- whether a row passes a test
 

@@ -18,7 +18,7 @@ use Rattle.pdw_base.specs.declared.value.Value.{Value}
 use Rattle.pdw_base.specs.declared.value.Value.TheVariants.{Null}
 use Rattle.pdw_bind.specs.Bind as bind
 use Rattle.pdw_bind.specs.Bind.{Part, all_parts, block_of, leaf, together, unit_of}
-use Rattle.pdw_bind.specs.Sound.{ElementShape, from_columns, joined_shape, sides_sound}
+use Rattle.pdw_form.specs.Sound.{ElementShape, from_columns, joined_shape, sides_sound}
 use Rattle.pdw_catalog.specs.Catalog.{Tables, table_named}
 use Rattle.pdw_catalog.specs.Database.{Database}
 use Rattle.pdw_catalog.specs.declared.table.Column.{Column}
@@ -28,7 +28,7 @@ use Rattle.pdw_expr.specs.Rows.{filtered, itself, joined, meets, products, scann
 use Rattle.pdw_expr.specs.declared.agg.JoinKind.{JoinKind}
 use Rattle.pdw_expr.specs.declared.agg.JoinKind.TheVariants as kind
 use Rattle.pdw_expr.specs.declared.cond.Cond.{Cond}
-use Rattle.pdw_meaning.specs.Numbered.{joined_rows}
+use Rattle.pdw_form.specs.Numbered.{joined_rows}
 use Rattle.pdw_algebra.proofs.Products.{all-filter, block-filter, filter-all, filtered-append, inner-crossed, products-append, products-cons, products-one, within-crossed, within-full_joined, within-left_joined}
 use Rattle.pdw_algebra.proofs.Used.{CondsUse, conds-use, uses-after, uses-append, uses-more}
 use Rattle.pdw_algebra.specs.Within.{AllWithin, IsWithin}

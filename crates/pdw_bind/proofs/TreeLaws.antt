@@ -16,9 +16,10 @@ use Rattle.pdw_base.specs.declared.schema.ColId.{ColId}
 use Rattle.pdw_base.specs.declared.value.Value.{Value}
 use Rattle.pdw_base.specs.declared.value.Value.TheVariants.{Null}
 use Rattle.pdw_bind.specs.Bind as bind
-use Rattle.pdw_bind.specs.Bind.{Bound, Part, block_of, distinct_if, each_item_once, each_number_once, first_of, in_condition, new_item, subquery_join, subquery_kind, subquery_tree}
-use Rattle.pdw_bind.specs.Sound as sound
-use Rattle.pdw_bind.specs.Sound.{ElementShape, QueryShape, SubqueryShape, fit_block, from_columns, from_leaves, from_sound, group_columns, group_sound, judged_kind, kind_of_first, left_fits, output_columns, stands_alone, subquery_columns, subquery_sound, where_sound}
+use Rattle.pdw_bind.specs.Bind.{Bound, Part, block_of, distinct_if, in_condition, subquery_join, subquery_kind, subquery_tree}
+use Rattle.pdw_form.specs.Columns.{each_item_once, each_number_once, first_of, new_item}
+use Rattle.pdw_form.specs.Sound as sound
+use Rattle.pdw_form.specs.Sound.{ElementShape, QueryShape, SubqueryShape, fit_block, from_columns, from_leaves, from_sound, group_columns, group_sound, judged_kind, kind_of_first, left_fits, output_columns, stands_alone, subquery_columns, subquery_sound, where_sound}
 use Rattle.pdw_catalog.specs.Database.{Database}
 use Rattle.pdw_expr.specs.Env.{nulls, or_else, union}
 use Rattle.pdw_expr.specs.Parts.{each_once, same_row}
@@ -26,11 +27,11 @@ use Rattle.pdw_expr.specs.Rows.{filtered, item_value, first_row, group_row, grou
 use Rattle.pdw_expr.specs.declared.agg.Agg.{Agg}
 use Rattle.pdw_expr.specs.declared.cond.Cond.{Cond}
 use Rattle.pdw_expr.specs.declared.scalar.Scalar.{Scalar}
-use Rattle.pdw_meaning.specs.Numbered as numbered
-use Rattle.pdw_meaning.specs.Numbered.{NumberedMeaning, distinct_rows, group_rows, items_of, outs_of, subquery_holds}
-use Rattle.pdw_scope.specs.declared.judged.JFrom.TheOpen.{JudgedQuery-F}
-use Rattle.pdw_scope.specs.declared.judged.JGroup.{JGroup}
-use Rattle.pdw_scope.specs.declared.judged.JItem.{JItem}
+use Rattle.pdw_form.specs.Numbered as numbered
+use Rattle.pdw_form.specs.Numbered.{NumberedMeaning, distinct_rows, group_rows, items_of, outs_of, subquery_holds}
+use Rattle.pdw_form.specs.declared.judged.JFrom.TheOpen.{JudgedQuery-F}
+use Rattle.pdw_form.specs.declared.judged.JGroup.{JGroup}
+use Rattle.pdw_form.specs.declared.judged.JItem.{JItem}
 use Rattle.pdw_bind.proofs.OnceLaws.{distinct_once, items_once, keys_once}
 use Rattle.pdw_algebra.proofs.Products.{all-filter, filter-all, filter-filter}
 use Rattle.pdw_bind.proofs.SubqueryRows.{SidesWithin, item_columns, subquery_meaning, subquery_rows, subquery_side}

@@ -9,18 +9,18 @@ use Rattle.pdw_bind.proofs.TreeLaws.{QueryMeans, QueryParts, Subqueries, Subquer
 use Rattle.pdw_bind.proofs.TreeLaws as queries
 use Rattle.pdw_bind.specs.Bind as bind
 use Rattle.pdw_bind.specs.Bind.{Bound, Part, bound, part_step, trees}
-use Rattle.pdw_bind.specs.Sound as sound
-use Rattle.pdw_bind.specs.Sound.{ElementShape, QueryShape, SubqueryShape, element_shape, element_step, query_shape, stands_alone, subquery_made, subquery_shape, subquery_step}
+use Rattle.pdw_form.specs.Sound as sound
+use Rattle.pdw_form.specs.Sound.{ElementShape, QueryShape, SubqueryShape, element_shape, element_step, query_shape, stands_alone, subquery_made, subquery_shape, subquery_step}
 use Rattle.pdw_catalog.specs.Database.{Database}
 use Rattle.pdw_expr.specs.Env.{nulls}
-use Rattle.pdw_meaning.specs.Numbered as meaning
-use Rattle.pdw_meaning.specs.Numbered.{NumberedMeaning, from_step, numbered}
-use Rattle.pdw_scope.specs.declared.judged.JFrom.{JFrom}
-use Rattle.pdw_scope.specs.declared.judged.JFrom.TheFolds.{fold-JFrom, fold-JSub, fold-JudgedQuery, fold-roll-JFrom, fold-roll-JSub, fold-roll-JudgedQuery, ind-JudgedQuery, map-JFrom, map-JSub, map-JudgedQuery}
-use Rattle.pdw_scope.specs.declared.judged.JFrom.TheOpen.{JFrom-F, JSub-F, JudgedQuery-F}
-use Rattle.pdw_scope.specs.declared.judged.JFrom.TheViews.{roll-JFrom}
-use Rattle.pdw_scope.specs.declared.judged.JSub.{JSub, roll-JSub}
-use Rattle.pdw_scope.specs.declared.judged.JudgedQuery.{JudgedQuery, roll-JudgedQuery}
+use Rattle.pdw_form.specs.Numbered as meaning
+use Rattle.pdw_form.specs.Numbered.{NumberedMeaning, from_step, numbered}
+use Rattle.pdw_form.specs.declared.judged.JFrom.{JFrom}
+use Rattle.pdw_form.specs.declared.judged.JFrom.TheFolds.{fold-JFrom, fold-JSub, fold-JudgedQuery, fold-roll-JFrom, fold-roll-JSub, fold-roll-JudgedQuery, ind-JudgedQuery, map-JFrom, map-JSub, map-JudgedQuery}
+use Rattle.pdw_form.specs.declared.judged.JFrom.TheOpen.{JFrom-F, JSub-F, JudgedQuery-F}
+use Rattle.pdw_form.specs.declared.judged.JFrom.TheViews.{roll-JFrom}
+use Rattle.pdw_form.specs.declared.judged.JSub.{JSub, roll-JSub}
+use Rattle.pdw_form.specs.declared.judged.JudgedQuery.{JudgedQuery, roll-JudgedQuery}
 
 -- one fact of three equal values
 of_three : {A B C : Type 0} (P : A → B → C → Type 0) {a x : A} {b y : B} {c z : C} → x ≡ a → y ≡ b → z ≡ c → P a b c → P x y z

@@ -11,16 +11,16 @@ use Rattle.pdw_bind.proofs.ShapeSteps.{shape-scan}
 use Rattle.pdw_bind.proofs.ShapeSubqueries.{QueryFits, SubqueryFits, subquery_fits}
 use Rattle.pdw_bind.specs.Bind as bind
 use Rattle.pdw_bind.specs.Bind.{Bound, Part, bound, part, subquery, trees}
-use Rattle.pdw_bind.specs.Sound as sound
-use Rattle.pdw_bind.specs.Sound.{ElementShape, IsSound, QueryShape, SubqueryShape, element_shape, query_shape, stands_alone, subquery_shape}
+use Rattle.pdw_form.specs.Sound as sound
+use Rattle.pdw_form.specs.Sound.{ElementShape, IsSound, QueryShape, SubqueryShape, element_shape, query_shape, stands_alone, subquery_shape}
 use Rattle.pdw_catalog.specs.Catalog.{Tables}
-use Rattle.pdw_meaning.proofs.Related.{Related, none, more}
-use Rattle.pdw_scope.specs.declared.judged.JFrom.TheFolds.{fold-roll-JFrom, fold-roll-JSub, fold-roll-JudgedQuery, ind-JudgedQuery, map-JFrom, map-JSub, map-JudgedQuery}
-use Rattle.pdw_scope.specs.declared.judged.JFrom.TheOpen.{JFrom-F, JSub-F, JudgedQuery-F}
-use Rattle.pdw_scope.specs.declared.judged.JFrom.TheViews.{roll-JFrom}
-use Rattle.pdw_scope.specs.declared.judged.JFrom.{JFrom}
-use Rattle.pdw_scope.specs.declared.judged.JSub.{JSub, roll-JSub}
-use Rattle.pdw_scope.specs.declared.judged.JudgedQuery.{JudgedQuery, roll-JudgedQuery}
+use Rattle.pdw_form.proofs.Related.{Related, none, more}
+use Rattle.pdw_form.specs.declared.judged.JFrom.TheFolds.{fold-roll-JFrom, fold-roll-JSub, fold-roll-JudgedQuery, ind-JudgedQuery, map-JFrom, map-JSub, map-JudgedQuery}
+use Rattle.pdw_form.specs.declared.judged.JFrom.TheOpen.{JFrom-F, JSub-F, JudgedQuery-F}
+use Rattle.pdw_form.specs.declared.judged.JFrom.TheViews.{roll-JFrom}
+use Rattle.pdw_form.specs.declared.judged.JFrom.{JFrom}
+use Rattle.pdw_form.specs.declared.judged.JSub.{JSub, roll-JSub}
+use Rattle.pdw_form.specs.declared.judged.JudgedQuery.{JudgedQuery, roll-JudgedQuery}
 
 module _ (tables : Tables) where
   -- ---- what is proved of each

@@ -1,6 +1,6 @@
 -- The tree of operators of a query.
-use Rattle.std.specs.Prelude.{◌==◌, Bool, List, [], ◌∷◌, ◌++◌, map, fold, Option, Some, None, is_some, if◌then◌else◌}
-use Rattle.std.specs.List.{flat_map, list_any}
+use Rattle.std.specs.Prelude.{Bool, List, [], ◌∷◌, ◌++◌, map, fold, Option, Some, None, is_some, if◌then◌else◌}
+use Rattle.std.specs.List.{flat_map}
 use Rattle.pdw_algebra.specs.declared.tree.Tree.{Tree}
 use Rattle.pdw_algebra.specs.declared.tree.Tree.TheVariants as tree
 use Rattle.pdw_syntax.specs.declared.query.JoinWord.{JoinWord}
@@ -14,13 +14,14 @@ use Rattle.pdw_expr.specs.declared.cond.Cond.{Cond}
 use Rattle.pdw_expr.specs.declared.cond.Cond.TheVariants as cond
 use Rattle.pdw_expr.specs.declared.scalar.Scalar.{Scalar}
 use Rattle.pdw_expr.specs.declared.scalar.Scalar.TheVariants.{Col}
-use Rattle.pdw_scope.specs.declared.judged.JFrom.TheOpen.{JFrom-F, JSub-F, JudgedQuery-F}
-use Rattle.pdw_scope.specs.declared.judged.JFrom.TheFolds.{fold-JFrom, fold-JSub, fold-JudgedQuery}
-use Rattle.pdw_scope.specs.declared.judged.JFrom.{JFrom}
-use Rattle.pdw_scope.specs.declared.judged.JGroup.{JGroup}
-use Rattle.pdw_scope.specs.declared.judged.JItem.{JItem}
-use Rattle.pdw_scope.specs.declared.judged.JSub.{JSub}
-use Rattle.pdw_scope.specs.declared.judged.JudgedQuery.{JudgedQuery}
+use Rattle.pdw_form.specs.Columns.{each_item_once, each_number_once, first_of}
+use Rattle.pdw_form.specs.declared.judged.JFrom.TheOpen.{JFrom-F, JSub-F, JudgedQuery-F}
+use Rattle.pdw_form.specs.declared.judged.JFrom.TheFolds.{fold-JFrom, fold-JSub, fold-JudgedQuery}
+use Rattle.pdw_form.specs.declared.judged.JFrom.{JFrom}
+use Rattle.pdw_form.specs.declared.judged.JGroup.{JGroup}
+use Rattle.pdw_form.specs.declared.judged.JItem.{JItem}
+use Rattle.pdw_form.specs.declared.judged.JSub.{JSub}
+use Rattle.pdw_form.specs.declared.judged.JudgedQuery.{JudgedQuery}
 
 -- ---- FROM
 
@@ -109,19 +110,6 @@ subquery_join negated left query so_far = tree.Join (subquery_kind negated) (in_
 
 -- ---- groups and output columns
 
--- each once, in the order of their first places
-abbrev pub new_number : List ColId → ColId → List ColId
-new_number before c = if list_any (λ other. other.0 == c.0) before then before else before ++ c ∷ []
-
-abbrev pub each_number_once : List ColId → List ColId
-each_number_once numbers = fold new_number [] numbers
-
-abbrev pub new_item : List (ColId × Option Scalar) → JItem → List (ColId × Option Scalar)
-new_item before item = if list_any (λ other. other.0.0 == item.out.0) before then before else before ++ (item.out, item.make) ∷ []
-
-abbrev pub each_item_once : List JItem → List (ColId × Option Scalar)
-each_item_once items = fold new_item [] items
-
 -- HAVING, where it is written
 abbrev pub filtered : List Cond → Tree → Tree
 filtered [] t = t
@@ -133,10 +121,6 @@ grouped (Some group) t = filtered group.having (tree.GroupBy (each_number_once g
 
 abbrev pub distinct_if : Bool → List JItem → Tree → Tree
 distinct_if distinct items t = if distinct then tree.GroupBy (each_number_once (map (λ item. item.out) items)) [] t else t
-
-abbrev pub first_of : List JItem → Option JItem
-first_of [] = None
-first_of (first ∷ rest) = Some first
 
 -- ---- folds
 

@@ -1,2 +1,1 @@
 pub mod Bind
-pub mod Sound

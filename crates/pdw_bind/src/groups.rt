@@ -4,12 +4,13 @@ ghost use Rattle.std.specs.Prelude.{◌≡◌, ◌==◌, map, IfOk};
 ghost use Rattle.std.specs.List.{list_any};
 ghost use Rattle.pdw_algebra.specs.declared.tree.Tree.TheVariants as tree;
 ghost use Rattle.pdw_bind.specs.Bind as spec;
+ghost use Rattle.pdw_form.specs.Columns as columns;
 
 use crate::copies::{aggs_copy, conds_copy, make_copy};
 use pdw_algebra::Tree;
 use pdw_base::{ColId, NoMemory};
 use pdw_expr::{Agg, Cond, Scalar};
-use pdw_scope::{JGroup, JItem};
+use pdw_form::{JGroup, JItem};
 use sqlite_items::{Boxed, Items};
 use std::alloc::Global;
 
@@ -20,7 +21,7 @@ fn has_number(numbers: &[ColId], number: ColId) -> bool
 }
 
 fn with_number(before: Items<ColId>, number: ColId) -> Result<Items<ColId>, NoMemory>
-    ensures { IfOk result (λ more. more ≡ spec.new_number before number) }
+    ensures { IfOk result (λ more. more ≡ columns.new_number before number) }
 {
     let mut numbers = before;
     if !has_number(numbers.as_slice(), number) {
@@ -30,7 +31,7 @@ fn with_number(before: Items<ColId>, number: ColId) -> Result<Items<ColId>, NoMe
 }
 
 fn each_number_once(alloc: Global, numbers: &[ColId]) -> Result<Items<ColId>, NoMemory>
-    ensures { IfOk result (λ once. once ≡ spec.each_number_once numbers.now) }
+    ensures { IfOk result (λ once. once ≡ columns.each_number_once numbers.now) }
 {
     let mut once = Items::new(alloc);
     for number in numbers {
@@ -50,7 +51,7 @@ fn with_item(
     before: Items<(ColId, Option<Scalar>)>,
     item: &JItem,
 ) -> Result<Items<(ColId, Option<Scalar>)>, NoMemory>
-    ensures { IfOk result (λ more. more ≡ spec.new_item before item.now) }
+    ensures { IfOk result (λ more. more ≡ columns.new_item before item.now) }
 {
     let mut items = before;
     if !has_item(items.as_slice(), item.out) {
@@ -63,7 +64,7 @@ fn each_item_once(
     alloc: Global,
     items: &[JItem],
 ) -> Result<Items<(ColId, Option<Scalar>)>, NoMemory>
-    ensures { IfOk result (λ once. once ≡ spec.each_item_once items.now) }
+    ensures { IfOk result (λ once. once ≡ columns.each_item_once items.now) }
 {
     let mut once = Items::new(alloc);
     for item in items {
@@ -83,7 +84,7 @@ fn item_numbers(alloc: Global, items: &[JItem]) -> Result<Items<ColId>, NoMemory
 }
 
 fn group_by(alloc: Global, keys: &[ColId], aggs: Items<Agg>, child: Tree) -> Result<Tree, NoMemory>
-    ensures { IfOk result (λ made. made ≡ tree.GroupBy (spec.each_number_once keys.now) aggs child) }
+    ensures { IfOk result (λ made. made ≡ tree.GroupBy (columns.each_number_once keys.now) aggs child) }
 {
     let keys = each_number_once(alloc, keys)?;
     let child = Boxed::new(alloc, child)?;
@@ -121,7 +122,7 @@ pub fn grouped(alloc: Global, group: &Option<JGroup>, child: Tree) -> Result<Tre
 
 /// The output columns.
 pub fn projected(alloc: Global, items: &[JItem], child: Tree) -> Result<Tree, NoMemory>
-    ensures { IfOk result (λ made. made ≡ tree.Project (spec.each_item_once items.now) child) }
+    ensures { IfOk result (λ made. made ≡ tree.Project (columns.each_item_once items.now) child) }
 {
     let items = each_item_once(alloc, items)?;
     let child = Boxed::new(alloc, child)?;

@@ -10,7 +10,7 @@ use crate::leaves::{Part, block, joined, leaf, no_part, scan, together};
 use crate::subqueries::subquery_join;
 use pdw_algebra::Tree;
 use pdw_base::NoMemory;
-use pdw_scope::{JFrom, JSub, JudgedQuery};
+use pdw_form::{JFrom, JSub, JudgedQuery};
 use sqlite_items::Items;
 use std::alloc::Global;
 

@@ -9,7 +9,7 @@ use crate::copies::conds_copy;
 use pdw_algebra::Tree;
 use pdw_base::{NoMemory, Truth};
 use pdw_expr::{Cmp, Cond, JoinKind, Scalar};
-use pdw_scope::{JItem, JudgedQuery};
+use pdw_form::{JItem, JudgedQuery};
 use sqlite_items::{Boxed, Items};
 use std::alloc::Global;
 

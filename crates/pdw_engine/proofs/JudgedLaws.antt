@@ -21,14 +21,14 @@ use Rattle.pdw_catalog.specs.declared.table.Placing.TheVariants.{Hash}
 use Rattle.pdw_catalog.specs.declared.table.Table.{Table}
 use Rattle.pdw_catalog.specs.declared.table.TheConstants.{MOST_COLUMNS, MOST_TABLES}
 use Rattle.pdw_engine.specs.Prepared.{IsPrepared, is_built}
-use Rattle.pdw_meaning.proofs.Outcomes.{done_value, in_turn, refused_not_done}
-use Rattle.pdw_scope.specs.Queries.{select}
-use Rattle.pdw_scope.specs.Statements.{answer_of, create, is_named, judgement, known, known_or_fault, new_column, place_of_column, place_or_fault, placing, statement, with_known}
-use Rattle.pdw_scope.specs.Walk.{Outcome, Step, Walk, and_then, beginning, done, over, pure, refuse_if, refused}
-use Rattle.pdw_scope.specs.declared.fault.JudgeFault.{JudgeFault}
-use Rattle.pdw_scope.specs.declared.judged.Judged.{Judged}
-use Rattle.pdw_scope.specs.declared.judged.Judged.TheVariants as judged
-use Rattle.pdw_scope.specs.declared.judged.JudgedSelect.{JudgedSelect}
+use Rattle.pdw_walk.proofs.Outcomes.{done_value, in_turn, refused_not_done}
+use Rattle.pdw_walk.specs.Queries.{select}
+use Rattle.pdw_walk.specs.Statements.{answer_of, create, is_named, judgement, known, known_or_fault, new_column, place_of_column, place_or_fault, placing, statement, with_known}
+use Rattle.pdw_walk.specs.Walk.{Outcome, Step, Walk, and_then, beginning, done, over, pure, refuse_if, refused}
+use Rattle.pdw_walk.specs.declared.fault.JudgeFault.{JudgeFault}
+use Rattle.pdw_form.specs.declared.judged.Judged.{Judged}
+use Rattle.pdw_form.specs.declared.judged.Judged.TheVariants as judged
+use Rattle.pdw_form.specs.declared.judged.JudgedSelect.{JudgedSelect}
 
 -- ---- steps of a walk
 

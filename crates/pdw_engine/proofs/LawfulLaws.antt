@@ -5,8 +5,8 @@ use Rattle.std.proofs.lemmas.Option.{none-some}
 use Rattle.pdw_syntax.specs.declared.query.Select.{Select}
 use Rattle.pdw_syntax.specs.declared.statement.Statement.{Statement}
 use Rattle.pdw_syntax.specs.declared.statement.Statement.TheVariants as s
-use Rattle.pdw_bind.proofs.TreeLaw.{tree_rows_are}
-use Rattle.pdw_bind.specs.Sound.{HaveColumns}
+use Rattle.pdw_sound.proofs.TreeLaw.{tree_rows_are}
+use Rattle.pdw_form.specs.Sound.{HaveColumns}
 use Rattle.pdw_syntax.specs.Written.{query_written, statement_written}
 use Rattle.pdw_catalog.specs.Appliance.{Bags, Contents, IsSound, StoresAll}
 use Rattle.pdw_catalog.specs.Catalog.{Tables, table_named}
@@ -21,11 +21,11 @@ use Rattle.pdw_engine.specs.Selected.{SelectedBy}
 use Rattle.pdw_engine.specs.declared.answer.Answer.{Answer}
 use Rattle.pdw_engine.specs.declared.answer.Answer.TheVariants.{Rows}
 use Rattle.pdw_engine.specs.declared.answer.Table1.{Table1}
-use Rattle.pdw_meaning.proofs.AcceptedLaw.{accepted_names, accepted_order}
-use Rattle.pdw_meaning.specs.Answer.{IsOrdered}
-use Rattle.pdw_scope.specs.Statements.{judgement}
-use Rattle.pdw_scope.specs.declared.judged.Judged.TheVariants as judged
-use Rattle.pdw_scope.specs.declared.judged.JudgedSelect.{JudgedSelect}
+use Rattle.pdw_names.proofs.AcceptedLaw.{accepted_names, accepted_order}
+use Rattle.pdw_semantics.specs.Answer.{IsOrdered}
+use Rattle.pdw_walk.specs.Statements.{judgement}
+use Rattle.pdw_form.specs.declared.judged.Judged.TheVariants as judged
+use Rattle.pdw_form.specs.declared.judged.JudgedSelect.{JudgedSelect}
 
 -- ---- tables have columns
 

@@ -8,7 +8,7 @@ use Rattle.std.proofs.lemmas.Option.{none-some}
 use Rattle.pdw_base.proofs.ComparisonLemmas.{value_cmp-total}
 use Rattle.pdw_base.specs.declared.value.Value.TheVariants.{Null}
 use Rattle.pdw_catalog.specs.Table.{Row, value_at}
-use Rattle.pdw_meaning.specs.Answer.{IsOrdered, key_cmp, keys_cmp}
+use Rattle.pdw_semantics.specs.Answer.{IsOrdered, key_cmp, keys_cmp}
 
 key_total : (key : ℕ × Bool) → IsTotalOrder (key_cmp key)
 key_total (place, true) = back_total (on_total (value_at place) value_cmp-total)

@@ -17,10 +17,10 @@ use Rattle.pdw_engine.specs.declared.refusal.Stop.TheVariants.{Refused, Memory}
 use Rattle.pdw_engine.specs.declared.session.TheConstants.{MOST_FILE_BYTES}
 use Rattle.pdw_load.specs.Records.{faults_of, records_of, rows_of}
 use Rattle.pdw_load.specs.declared.load_error.LoadError.{LoadError}
-use Rattle.pdw_meaning.specs.Answer.{IsLawful}
-use Rattle.pdw_meaning.specs.Queries.{query}
-use Rattle.pdw_scope.specs.declared.judged.Judged.{Judged}
-use Rattle.pdw_scope.specs.declared.judged.Judged.TheVariants as judged
+use Rattle.pdw_semantics.specs.Answer.{IsLawful}
+use Rattle.pdw_semantics.specs.Queries.{query}
+use Rattle.pdw_form.specs.declared.judged.Judged.{Judged}
+use Rattle.pdw_form.specs.declared.judged.Judged.TheVariants as judged
 
 -- the content of the file that is wanted, exactly where one is
 abbrev pub IsGiven : Judged → Option (List ℕ) → Type 0

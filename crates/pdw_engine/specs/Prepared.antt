@@ -8,10 +8,10 @@ use Rattle.pdw_engine.specs.declared.refusal.Refusal.{Refusal}
 use Rattle.pdw_engine.specs.declared.refusal.Refusal.TheVariants as refusal
 use Rattle.pdw_engine.specs.declared.refusal.Stop.{Stop}
 use Rattle.pdw_engine.specs.declared.refusal.Stop.TheVariants.{Refused, Memory}
-use Rattle.pdw_scope.specs.Statements.{judgement}
-use Rattle.pdw_scope.specs.declared.fault.JudgeFault.TheVariants as fault
-use Rattle.pdw_scope.specs.declared.judged.Judged.{Judged}
-use Rattle.pdw_scope.specs.declared.judged.Judged.TheVariants as judged
+use Rattle.pdw_walk.specs.Statements.{judgement}
+use Rattle.pdw_walk.specs.declared.fault.JudgeFault.TheVariants as fault
+use Rattle.pdw_form.specs.declared.judged.Judged.{Judged}
+use Rattle.pdw_form.specs.declared.judged.Judged.TheVariants as judged
 
 -- the forms that are executed
 abbrev pub is_built : Statement → Bool

@@ -7,11 +7,11 @@ use Rattle.pdw_bind.specs.Bind.{bound}
 use Rattle.pdw_catalog.specs.Database.{Database}
 use Rattle.pdw_engine.specs.declared.answer.Table1.{Table1}
 use Rattle.pdw_expr.specs.Rows.{key_of}
-use Rattle.pdw_meaning.specs.Answer.{IsOrdered}
-use Rattle.pdw_meaning.specs.Numbered.{outs_of}
-use Rattle.pdw_scope.specs.declared.judged.JItem.{JItem}
-use Rattle.pdw_scope.specs.declared.judged.JudgedQuery.{JudgedQuery, out-JudgedQuery}
-use Rattle.pdw_scope.specs.declared.judged.JudgedSelect.{JudgedSelect}
+use Rattle.pdw_semantics.specs.Answer.{IsOrdered}
+use Rattle.pdw_form.specs.Numbered.{outs_of}
+use Rattle.pdw_form.specs.declared.judged.JItem.{JItem}
+use Rattle.pdw_form.specs.declared.judged.JudgedQuery.{JudgedQuery, out-JudgedQuery}
+use Rattle.pdw_form.specs.declared.judged.JudgedSelect.{JudgedSelect}
 
 abbrev pub items_of : JudgedQuery → List JItem
 items_of q = (out-JudgedQuery q).items

@@ -12,8 +12,7 @@ use crate::columns::by_rising_numbers;
 use crate::pairs::copies;
 use crate::relation::Relation;
 use pdw_base::{ColId, Kind, NoMemory, Row, Schema, Value};
-use pdw_expr::{Agg, Scalar};
-use pdw_meaning::{aggregated, each_once, is_same_row};
+use pdw_expr::{Agg, Scalar, aggregated, each_once, is_same_row};
 use sqlite_items::Items;
 use std::alloc::Global;
 

@@ -24,5 +24,3 @@ pub use prepared::{Prepared, Want};
 pub use refusal::{Refusal, Stop};
 pub use session::{MOST_FILE_BYTES, Session};
 
-#[cfg(test)]
-mod tests;

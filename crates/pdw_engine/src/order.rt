@@ -4,8 +4,8 @@ ghost use Rattle.std.specs.Prelude.{◌≡◌, IfOk};
 ghost use Rattle.std.specs.List.Sorted.{IsPermutation};
 ghost use Rattle.pdw_base.specs.Value.{owned};
 ghost use Rattle.pdw_catalog.specs.Table as table;
-ghost use Rattle.pdw_meaning.specs.Answer as spec;
-ghost use Rattle.pdw_meaning.specs.Answer.{IsOrdered};
+ghost use Rattle.pdw_semantics.specs.Answer as spec;
+ghost use Rattle.pdw_semantics.specs.Answer.{IsOrdered};
 
 use pdw_base::{NoMemory, Row, ValueRef, order};
 use sqlite_items::{Items, at};

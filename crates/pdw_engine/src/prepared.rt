@@ -5,7 +5,7 @@ ghost use Rattle.std.specs.Option.{option_copied, option_map};
 ghost use Rattle.pdw_engine.specs.Prepared.{wanted};
 
 use pdw_base::{NoMemory, Str};
-use pdw_scope::Judged;
+use pdw_form::Judged;
 use std::alloc::Global;
 use std::marker::Model;
 
@@ -26,8 +26,8 @@ impl Model for Prepared {
     ghost use Rattle.std.specs.Prelude.{◌≡◌};
     ghost use Rattle.std.specs.Option.{option_map};
     ghost use Rattle.pdw_engine.specs.Prepared.{wanted};
-    ghost use Rattle.pdw_scope.specs.contracts.judged.Judged as of_judged;
-    ghost use Rattle.pdw_scope.specs.declared.judged.Judged.{Judged as Work};
+    ghost use Rattle.pdw_form.specs.contracts.judged.Judged as of_judged;
+    ghost use Rattle.pdw_form.specs.declared.judged.Judged.{Judged as Work};
 
     ghost Value = { Work };
 

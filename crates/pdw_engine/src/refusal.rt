@@ -1,6 +1,6 @@
 use pdw_base::NoMemory;
 use pdw_load::LoadError;
-use pdw_scope::JudgeFault;
+use pdw_walk::JudgeFault;
 use std::alloc::AllocError;
 
 /// Why a statement is refused.

@@ -6,7 +6,7 @@ ghost use Rattle.pdw_catalog.specs.Database.{undivided};
 ghost use Rattle.pdw_engine.specs.Selected.{SelectedBy};
 ghost use Rattle.pdw_engine.specs.Relation.{environments};
 ghost use Rattle.pdw_expr.specs.Rows.{key_of};
-ghost use Rattle.pdw_meaning.specs.Numbered.{outs_of};
+ghost use Rattle.pdw_form.specs.Numbered.{outs_of};
 
 use crate::answer::Table1;
 use crate::cells::column;
@@ -16,7 +16,7 @@ use crate::relation::Relation;
 use pdw_base::{NoMemory, Row, Str};
 use pdw_bind::bind;
 use pdw_catalog::Appliance;
-use pdw_scope::{JItem, JudgedSelect};
+use pdw_form::{JItem, JudgedSelect};
 use sqlite_items::Items;
 use std::alloc::Global;
 

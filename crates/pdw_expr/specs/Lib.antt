@@ -12,3 +12,4 @@ pub mod Join
 pub mod Parts
 pub mod Rising
 pub mod Rows
+pub mod Predicates

@@ -11,8 +11,8 @@ use Rattle.pdw_expr.specs.Aggregate.{aggregated}
 use Rattle.pdw_expr.specs.Arithmetic.{computed}
 use Rattle.pdw_expr.specs.declared.agg.AggKind.{AggKind}
 use Rattle.pdw_expr.specs.declared.scalar.Arith.{Arith}
-use Rattle.pdw_meaning.specs.Environment.{Group, alone}
-use Rattle.pdw_meaning.specs.Exprs.{argument, value_of, value_step}
+use Rattle.pdw_semantics.specs.Environment.{Group, alone}
+use Rattle.pdw_semantics.specs.Exprs.{argument, value_of, value_step}
 
 links_of : (group : Group) (first : Value) (rest : List (Arith × SqlExpr))
     → fold (λ value (link : Arith × (Group → Value)). computed link.0 value (link.1 group)) first (map (λ (link : Arith × SqlExpr). (link.0, value_of link.1)) rest)

@@ -3,7 +3,7 @@ use Rattle.std.proofs.Common.{◌≡◌, ◌==◌, false, List, [], ◌∷◌, l
 use Rattle.pdw_syntax.specs.declared.expr.ColRef.{ColRef}
 use Rattle.pdw_base.specs.declared.value.Value.{Value}
 use Rattle.pdw_expr.specs.Parts.{groups, parts}
-use Rattle.pdw_meaning.specs.Environment.{Scope, alone, group_of}
+use Rattle.pdw_semantics.specs.Environment.{Scope, alone, group_of}
 
 pub groups_of_singles : (outers : List Scope) (rows : List Scope) → map (λ part. group_of part outers) (map (λ row. row ∷ []) rows) ≡ map (alone outers) rows
 groups_of_singles outers [] = refl

@@ -1,36 +1,10 @@
+-- Rows with names, and what a reference means in them
 pub mod ScopeLemmas
+-- The value of a chain, and of an aggregate
 pub mod ExprLemmas
-pub mod PartLemmas
+-- The groups of a query by their rows alone
 pub mod GroupLemmas
+-- Rows with their partners, one row more
 pub mod JoinLemmas
+-- What the parts of a query mean, by their own parts
 pub mod QueryLemmas
-pub mod CondMeaningLaws
-pub mod DerivedMeaningLaws
-pub mod Distinct
-pub mod ExprMeaningLaws
-pub mod FromMeaningLaws
-pub mod GroupLaws
-pub mod Induction
-pub mod ItemLaws
-pub mod JoinMeaningLaws
-pub mod KeptLaws
-pub mod LookupLaws
-pub mod Loops
-pub mod NamesLaw
-pub mod Once
-pub mod Outcomes
-pub mod QueryMeaningLaws
-pub mod QueryParts
-pub mod ReadLaws
-pub mod Related
-pub mod Relations
-pub mod RowLaws
-pub mod SideBySide
-pub mod TableMeaningLaws
-pub mod TestedLaws
-pub mod WalkLaws
-pub mod WhereLaws
-pub mod AcceptedLaw
-pub mod OutputNames
-pub mod OrderKeys
-pub mod SelectNames

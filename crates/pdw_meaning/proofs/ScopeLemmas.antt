@@ -4,9 +4,9 @@ use Rattle.std.specs.List.{find}
 use Rattle.pdw_syntax.specs.declared.expr.ColRef.{ColRef}
 use Rattle.pdw_base.specs.declared.value.Value.{Value}
 use Rattle.pdw_base.specs.declared.value.Value.TheVariants.{Null}
-use Rattle.pdw_meaning.specs.Environment.{Scope, first_value, fits, labelled, labelled_one, looked_up}
-use Rattle.pdw_meaning.specs.declared.scope.Cell.{Cell}
-use Rattle.pdw_meaning.specs.declared.scope.Label.{Label}
+use Rattle.pdw_semantics.specs.Environment.{Scope, first_value, fits, labelled, labelled_one, looked_up}
+use Rattle.pdw_semantics.specs.declared.labels.Cell.{Cell}
+use Rattle.pdw_semantics.specs.declared.labels.Label.{Label}
 
 -- one name more
 pub labelled-more : (labels : List Label) (row : List Value) (label : Label)

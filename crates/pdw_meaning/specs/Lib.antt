@@ -1,10 +1,2 @@
-pub mod Environment
-pub mod Exprs
-pub mod Conds
-pub mod Froms
 pub mod Joins
-pub mod Parts
-pub mod Queries
 pub mod Evaluation
-pub mod Answer
-pub mod Numbered

@@ -2,7 +2,7 @@
 
 ghost use Rattle.std.specs.Prelude.{◌≡◌, IfOk};
 ghost use Rattle.pdw_catalog.specs.Database.{undivided};
-ghost use Rattle.pdw_meaning.specs.Answer.{answer};
+ghost use Rattle.pdw_semantics.specs.Answer.{answer};
 
 use crate::queries::answer_of;
 use pdw_base::{Bag, NoMemory, Row};
@@ -22,7 +22,7 @@ fn bag_of(alloc: Global, rows: &[Row]) -> Result<Bag, NoMemory>
 
 /// The rows of a SELECT over whole tables, row by row as they are defined, in any order: SQL-92, 7.9. It is meant for
 /// comparison: joins are nested loops, names are looked up for each row, and a subquery is evaluated for each row.
-#[tactic(auto, unfolding(crate::specs::Answer::answer))]
+#[tactic(auto, unfolding(pdw_semantics::specs::Answer::answer))]
 pub fn plain_answer(alloc: Global, app: &Appliance, s: &Select) -> Result<Bag, NoMemory>
     ensures { IfOk result (λ rows. rows ≡ answer (undivided app.now) s.now) }
 {

@@ -2,10 +2,10 @@
 
 ghost use Rattle.std.specs.Prelude.{◌≡◌, [], IfOk, map};
 ghost use Rattle.pdw_catalog.specs.Database.{undivided};
-ghost use Rattle.pdw_meaning.specs.Environment.{labelled};
-ghost use Rattle.pdw_meaning.specs.Froms as froms;
+ghost use Rattle.pdw_semantics.specs.Environment.{labelled};
+ghost use Rattle.pdw_semantics.specs.Froms as froms;
 ghost use Rattle.pdw_meaning.specs.Joins as spec;
-ghost use Rattle.pdw_scope.specs.Froms as scope;
+ghost use Rattle.pdw_walk.specs.Froms as scope;
 
 use crate::scope::{Element, Label, Scope, labelled_row};
 use pdw_base::{NoMemory, Row, Str};

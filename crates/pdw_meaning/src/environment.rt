@@ -3,8 +3,8 @@
 ghost use Rattle.std.specs.Prelude.{◌≡◌, IfOk};
 ghost use Rattle.std.specs.List.{find};
 ghost use Rattle.std.specs.Option.{option_copied};
-ghost use Rattle.pdw_meaning.specs.Environment as spec;
-ghost use Rattle.pdw_meaning.specs.Environment.{environment, group_of};
+ghost use Rattle.pdw_semantics.specs.Environment as spec;
+ghost use Rattle.pdw_semantics.specs.Environment.{environment, group_of};
 
 use crate::scope::{Cell, Scope, scopes_from};
 use pdw_base::{NoMemory, Str, Value};

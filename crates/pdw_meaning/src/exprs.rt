@@ -2,10 +2,10 @@
 
 ghost use Rattle.std.specs.Prelude.{◌≡◌, IfOk, map};
 ghost use Rattle.std.specs.Option.{option_map};
-ghost use Rattle.pdw_meaning.specs.Environment.{alone, group_of};
-ghost use Rattle.pdw_meaning.specs.Exprs as spec;
+ghost use Rattle.pdw_semantics.specs.Environment.{alone, group_of};
+ghost use Rattle.pdw_semantics.specs.Exprs as spec;
 
-use crate::aggregates::aggregated;
+use pdw_expr::aggregated;
 use crate::environment::looked_up;
 use crate::scope::Scope;
 use crate::values::{computed_value, signed};

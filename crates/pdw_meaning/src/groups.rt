@@ -3,11 +3,11 @@
 ghost use Rattle.std.specs.Prelude.{◌≡◌, ◌∷◌, [], IfOk, map};
 ghost use Rattle.std.specs.List.{filter};
 ghost use Rattle.pdw_expr.specs.Parts as parts;
-ghost use Rattle.pdw_meaning.specs.Environment.{group_of};
-ghost use Rattle.pdw_meaning.specs.Queries as spec;
+ghost use Rattle.pdw_semantics.specs.Environment.{group_of};
+ghost use Rattle.pdw_semantics.specs.Queries as spec;
 
 use crate::environment::looked_up;
-use crate::parts::{each_once, is_same_row};
+use pdw_expr::{each_once, is_same_row};
 use crate::scope::{Scope, copy_scope, copy_scopes};
 use pdw_base::{NoMemory, Row};
 use pdw_syntax::ColRef;

@@ -3,14 +3,14 @@
 ghost use Rattle.std.specs.Prelude.{◌≡◌, ◌++◌, IfOk, OnOk, length, map};
 ghost use Rattle.std.specs.List.{filter, flat_map};
 ghost use Rattle.std.specs.Str.{bytes_eq};
-ghost use Rattle.pdw_meaning.specs.Environment.{group_of};
-ghost use Rattle.pdw_meaning.specs.Queries as spec;
+ghost use Rattle.pdw_semantics.specs.Environment.{group_of};
+ghost use Rattle.pdw_semantics.specs.Queries as spec;
 
 use crate::environment::first_row;
 use crate::exprs::value_of;
 use crate::scope::{Cell, Label, Scope};
 use pdw_base::{NoMemory, Row, Str, Value};
-use pdw_scope::item_name;
+use pdw_resolve::item_name;
 use pdw_syntax::{Item, Items};
 use sqlite_items::Items as ListOf;
 use std::alloc::Global;

@@ -1,7 +1,6 @@
-//! What a query means: its rows over whole tables, with names looked up row by row.
+//! What a query means, computed by a plain program: its rows over whole tables, with names looked up row by row.
 #![tactic(auto)]
 
-mod aggregates;
 mod answer;
 mod elements;
 mod environment;
@@ -9,17 +8,12 @@ mod exprs;
 mod groups;
 mod items;
 mod joins;
-mod laws;
-mod parts;
+mod distinct;
 mod queries;
 mod scope;
 mod truths;
 mod values;
 
-pub use aggregates::aggregated;
 pub use answer::plain_answer;
-pub use laws::names_are_numbers;
-pub use parts::{each_once, is_same_row};
-
-#[cfg(test)]
-mod tests;
+pub use pdw_expr::{aggregated, each_once, is_same_row};
+pub use pdw_names::names_are_numbers;

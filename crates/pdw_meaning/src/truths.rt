@@ -4,9 +4,9 @@ ghost use Rattle.std.specs.Prelude.{◌≡◌, IfOk, map};
 ghost use Rattle.pdw_expr.specs.Comparison as comparison;
 ghost use Rattle.pdw_expr.specs.Like as likes;
 ghost use Rattle.pdw_expr.specs.Logic.{decided, is_truth};
-ghost use Rattle.pdw_meaning.specs.Conds as spec;
-ghost use Rattle.pdw_meaning.specs.Environment.{group_of};
-ghost use Rattle.pdw_meaning.specs.Exprs as exprs;
+ghost use Rattle.pdw_expr.specs.Predicates as predicates;
+ghost use Rattle.pdw_semantics.specs.Environment.{group_of};
+ghost use Rattle.pdw_semantics.specs.Exprs as exprs;
 
 use crate::exprs::value_of;
 use crate::scope::Scope;
@@ -18,7 +18,7 @@ use std::alloc::Global;
 
 /// NOT of the truth where that is asked.
 fn negated_if(negated: bool, truth: Truth) -> Truth
-    ensures { result ≡ spec.negated_if negated truth }
+    ensures { result ≡ predicates.negated_if negated truth }
 {
     if negated { not(truth) } else { truth }
 }
@@ -48,7 +48,7 @@ pub fn likeness(
     rows: &[Scope],
     outers: &[Scope],
 ) -> Result<Truth, NoMemory>
-    ensures { IfOk result (λ truth. truth ≡ spec.negated_if negated (likes.like (exprs.value_of value.now (group_of rows.now outers.now)) (exprs.value_of pattern.now (group_of rows.now outers.now)))) }
+    ensures { IfOk result (λ truth. truth ≡ predicates.negated_if negated (likes.like (exprs.value_of value.now (group_of rows.now outers.now)) (exprs.value_of pattern.now (group_of rows.now outers.now)))) }
 {
     let value = value_of(alloc, value, rows, outers)?;
     let pattern = value_of(alloc, pattern, rows, outers)?;
@@ -63,7 +63,7 @@ pub fn nullness(
     rows: &[Scope],
     outers: &[Scope],
 ) -> Result<Truth, NoMemory>
-    ensures { IfOk result (λ truth. truth ≡ spec.negated_if negated (decided (comparison.is_null (exprs.value_of value.now (group_of rows.now outers.now))))) }
+    ensures { IfOk result (λ truth. truth ≡ predicates.negated_if negated (decided (comparison.is_null (exprs.value_of value.now (group_of rows.now outers.now))))) }
 {
     let value = value_of(alloc, value, rows, outers)?;
     Ok(negated_if(negated, is_null(value.as_ref())))
@@ -71,7 +71,7 @@ pub fn nullness(
 
 // Whether the value lies between two others.
 fn is_between(value: &Value, low: &Value, high: &Value) -> Truth
-    ensures { result ≡ spec.between value.now low.now high.now }
+    ensures { result ≡ predicates.between value.now low.now high.now }
 {
     let above = compared_by(Cmp::Ge, value.as_ref(), low.as_ref());
     let below = compared_by(Cmp::Le, value.as_ref(), high.as_ref());
@@ -88,7 +88,7 @@ pub fn betweenness(
     rows: &[Scope],
     outers: &[Scope],
 ) -> Result<Truth, NoMemory>
-    ensures { IfOk result (λ truth. truth ≡ spec.negated_if negated (spec.between (exprs.value_of value.now (group_of rows.now outers.now)) (exprs.value_of low.now (group_of rows.now outers.now)) (exprs.value_of high.now (group_of rows.now outers.now)))) }
+    ensures { IfOk result (λ truth. truth ≡ predicates.negated_if negated (predicates.between (exprs.value_of value.now (group_of rows.now outers.now)) (exprs.value_of low.now (group_of rows.now outers.now)) (exprs.value_of high.now (group_of rows.now outers.now)))) }
 {
     let value = value_of(alloc, value, rows, outers)?;
     let low = value_of(alloc, low, rows, outers)?;
@@ -98,7 +98,7 @@ pub fn betweenness(
 
 // Whether the value equals one of these.
 fn is_one_of(value: &Value, list: &[Value]) -> Truth
-    ensures { result ≡ spec.is_one_of value.now list.now }
+    ensures { result ≡ predicates.is_one_of value.now list.now }
 {
     let mut truth = Truth::False;
     for other in list {
@@ -131,7 +131,7 @@ pub fn is_in_list(
     rows: &[Scope],
     outers: &[Scope],
 ) -> Result<Truth, NoMemory>
-    ensures { IfOk result (λ truth. truth ≡ spec.negated_if negated (spec.is_one_of (exprs.value_of value.now (group_of rows.now outers.now)) (map (λ y. exprs.value_of y (group_of rows.now outers.now)) list.now))) }
+    ensures { IfOk result (λ truth. truth ≡ predicates.negated_if negated (predicates.is_one_of (exprs.value_of value.now (group_of rows.now outers.now)) (map (λ y. exprs.value_of y (group_of rows.now outers.now)) list.now))) }
 {
     let value = value_of(alloc, value, rows, outers)?;
     let list = values_over(alloc, list, rows, outers)?;
@@ -139,7 +139,7 @@ pub fn is_in_list(
 }
 
 fn first_column(alloc: Global, row: &Row) -> Result<Value, NoMemory>
-    ensures { IfOk result (λ value. value ≡ spec.first_column row.now) }
+    ensures { IfOk result (λ value. value ≡ predicates.first_column row.now) }
 {
     match row.values().first() {
         Some(value) => value.try_copy(alloc),
@@ -148,7 +148,7 @@ fn first_column(alloc: Global, row: &Row) -> Result<Value, NoMemory>
 }
 
 fn first_columns(alloc: Global, found: &[Row]) -> Result<ListOf<Value>, NoMemory>
-    ensures { IfOk result (λ values. values ≡ map spec.first_column found.now) }
+    ensures { IfOk result (λ values. values ≡ map predicates.first_column found.now) }
 {
     let mut values = ListOf::new(alloc);
     for row in found {
@@ -166,7 +166,7 @@ pub fn is_in_rows(
     rows: &[Scope],
     outers: &[Scope],
 ) -> Result<Truth, NoMemory>
-    ensures { IfOk result (λ truth. truth ≡ spec.negated_if negated (spec.is_one_of (exprs.value_of value.now (group_of rows.now outers.now)) (map spec.first_column found.now))) }
+    ensures { IfOk result (λ truth. truth ≡ predicates.negated_if negated (predicates.is_one_of (exprs.value_of value.now (group_of rows.now outers.now)) (map predicates.first_column found.now))) }
 {
     let value = value_of(alloc, value, rows, outers)?;
     let list = first_columns(alloc, found)?;
@@ -175,14 +175,14 @@ pub fn is_in_rows(
 
 /// EXISTS, by the rows that its query gave: SQL-92, 8.8.
 pub fn existence(found: &[Row]) -> Truth
-    ensures { result ≡ decided (spec.has_rows found.now) }
+    ensures { result ≡ decided (predicates.has_rows found.now) }
 {
     truth_from(!found.is_empty())
 }
 
 /// IS TRUE, IS FALSE or IS UNKNOWN, of a condition with a truth: SQL-92, 8.12.
 pub fn tested(negated: bool, found: Truth, wanted: Truth) -> Truth
-    ensures { result ≡ spec.negated_if negated (decided (is_truth found wanted)) }
+    ensures { result ≡ predicates.negated_if negated (decided (is_truth found wanted)) }
 {
     negated_if(negated, is(found, wanted))
 }

@@ -3,7 +3,7 @@
 ghost use Rattle.std.specs.Prelude.{◌≡◌, IfOk};
 ghost use Rattle.pdw_base.specs.Value.{owned};
 ghost use Rattle.pdw_expr.specs.Arithmetic.{computed};
-ghost use Rattle.pdw_meaning.specs.Exprs as spec;
+ghost use Rattle.pdw_semantics.specs.Exprs as spec;
 
 use pdw_base::{NoMemory, Value, ValueRef};
 use pdw_expr::{Arith, compute, negate};

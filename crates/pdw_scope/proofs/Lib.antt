@@ -1,9 +1,4 @@
-pub mod Turns
-pub mod Matches
-pub mod Chains
-pub mod NameLemmas
+-- The output columns of a name
 pub mod OutputPlaces
+-- The order keys of a query are judged alike whatever was walked before
 pub mod Orders
-pub mod Spread
-pub mod Nodes
-pub mod Places

@@ -6,14 +6,14 @@ use Rattle.pdw_syntax.specs.declared.query.OrderName.{OrderName}
 use Rattle.pdw_syntax.specs.declared.query.OrderName.TheVariants.{Name, Position}
 use Rattle.pdw_syntax.specs.declared.query.Select.{Select}
 use Rattle.pdw_catalog.specs.Catalog.{Tables}
-use Rattle.pdw_scope.specs.Queries.{name_of, named_place, order_key, order_place, ordered, place_at, places, query, select}
-use Rattle.pdw_scope.specs.Statements.{Answers, answer_of}
-use Rattle.pdw_scope.specs.Walk.{Walk, Outcome, done, refused, Step, ◌>>=◌, and_then, pure, refuse, over, each, gathering, beginning, Walks}
-use Rattle.pdw_scope.specs.declared.entry.Role.TheVariants as role
-use Rattle.pdw_scope.specs.declared.entry.Walked.{Walked}
-use Rattle.pdw_scope.specs.declared.fault.JudgeFault.{JudgeFault}
-use Rattle.pdw_scope.specs.declared.fault.JudgeFault.TheVariants.{UnknownColumn}
-use Rattle.pdw_scope.specs.declared.judged.JudgedSelect.{JudgedSelect}
+use Rattle.pdw_walk.specs.Queries.{name_of, named_place, order_key, order_place, ordered, place_at, places, query, select}
+use Rattle.pdw_walk.specs.Statements.{Answers, answer_of}
+use Rattle.pdw_walk.specs.Walk.{Walk, Outcome, done, refused, Step, ◌>>=◌, and_then, pure, refuse, over, each, gathering, beginning, Walks}
+use Rattle.pdw_walk.specs.declared.entry.Role.TheVariants as role
+use Rattle.pdw_walk.specs.declared.entry.Walked.{Walked}
+use Rattle.pdw_walk.specs.declared.fault.JudgeFault.{JudgeFault}
+use Rattle.pdw_walk.specs.declared.fault.JudgeFault.TheVariants.{UnknownColumn}
+use Rattle.pdw_form.specs.declared.judged.JudgedSelect.{JudgedSelect}
 
 -- the same outcome over another state
 abbrev moved : {A : Type 0} → Walk → Outcome A → Outcome A

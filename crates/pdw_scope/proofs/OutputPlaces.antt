@@ -3,10 +3,10 @@ use Rattle.std.proofs.Common.{◌≡◌, ℕ, suc, ◌+◌, ◌||◌, Bool, true
 use Rattle.std.specs.List.{enumerate_from, filter, list_any, position_from}
 use Rattle.std.proofs.lemmas.List.{length-drop, take_all}
 use Rattle.std.proofs.lemmas.Iterator.Adapters.{position_from-zero}
-use Rattle.pdw_scope.specs.Queries.{has_name, name_of, named_place, place_has_name, places}
-use Rattle.pdw_scope.specs.Walk.{done, refused, beginning}
-use Rattle.pdw_scope.specs.declared.entry.Column.{Column}
-use Rattle.pdw_scope.specs.declared.fault.JudgeFault.TheVariants.{Ambiguous, UnknownColumn}
+use Rattle.pdw_walk.specs.Queries.{has_name, name_of, named_place, place_has_name, places}
+use Rattle.pdw_walk.specs.Walk.{done, refused, beginning}
+use Rattle.pdw_walk.specs.declared.entry.Column.{Column}
+use Rattle.pdw_walk.specs.declared.fault.JudgeFault.TheVariants.{Ambiguous, UnknownColumn}
 
 module _ (name : List ℕ) where
   -- the places of the name, where the columns begin at place k

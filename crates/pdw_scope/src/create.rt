@@ -2,13 +2,13 @@
 
 ghost use Rattle.std.specs.Prelude.{◌≡◌, [], ◌∷◌, ◌++◌, IfOk};
 ghost use Rattle.std.specs.List.{list_any};
-ghost use Rattle.pdw_scope.specs.Statements as spec;
-ghost use Rattle.pdw_scope.specs.Statements.{Answers, answer_of};
-ghost use Rattle.pdw_scope.specs.Walk.{Walks, beginning, over};
+ghost use Rattle.pdw_walk.specs.Statements as spec;
+ghost use Rattle.pdw_walk.specs.Statements.{Answers, answer_of};
+ghost use Rattle.pdw_walk.specs.Walk.{Walks, beginning, over};
 
-use crate::columns::place_of_column;
-use crate::fault::{JudgeFault, LimitName};
-use crate::judged::Judged;
+use pdw_resolve::place_of_column;
+use pdw_walk::{JudgeFault, LimitName};
+use pdw_form::Judged;
 use pdw_base::Str;
 use pdw_catalog::{Catalog, Column, MOST_COLUMNS, MOST_TABLES, Placing, Table};
 use sqlite_items::Items as ListOf;
@@ -44,7 +44,7 @@ fn new_column(
 }
 
 // The columns, from left to right.
-#[tactic(auto, using(crate::proofs::Turns::turns))]
+#[tactic(auto, using(pdw_resolve::proofs::Turns::turns))]
 fn new_columns(alloc: Global, columns: &[Column]) -> Result<ListOf<Column>, JudgeFault>
     ensures steps { Walks (over spec.new_column [] columns.now beginning) result beginning }
     ensures same { IfOk result (λ found. found ≡ columns.now) }
@@ -67,7 +67,7 @@ fn placing(alloc: Global, columns: &[Column], hash: &Option<Str>) -> Result<Plac
 }
 
 /// A table that is to be made: a known name, then the columns, then the hash column, then one table too many.
-#[tactic(auto, unfolding(crate::specs::Statements::create))]
+#[tactic(auto, unfolding(pdw_walk::specs::Statements::create))]
 pub fn create(
     alloc: Global,
     catalog: &Catalog,

@@ -1,22 +1,23 @@
 //! The judgement of a statement.
 
-ghost use Rattle.pdw_scope.specs.Statements as spec;
-ghost use Rattle.pdw_scope.specs.Statements.{Answers, answer_of, judgement};
-ghost use Rattle.pdw_scope.specs.Walk.{beginning};
-ghost use Rattle.pdw_scope.specs.declared.judged.Judged.TheVariants as judged;
+ghost use Rattle.pdw_walk.specs.Statements as spec;
+ghost use Rattle.pdw_walk.specs.Statements.{Answers, answer_of, judgement};
+ghost use Rattle.pdw_walk.specs.Walk.{beginning};
+ghost use Rattle.pdw_form.specs.declared.judged.Judged.TheVariants as judged;
 
 use crate::create::create;
-use crate::fault::JudgeFault;
-use crate::judged::Judged;
+use pdw_walk::JudgeFault;
+use pdw_form::Judged;
 use crate::select::judge_select;
 use crate::settings::{budget_setting, cost_setting, hand};
 use pdw_base::Str;
 use pdw_catalog::Catalog;
 use pdw_syntax::{Select, Statement};
 use std::alloc::Global;
+use std::mem::drop;
 
 // What is done with a table, which has to be there.
-#[tactic(auto, unfolding(crate::specs::Statements::with_known, crate::specs::Statements::known))]
+#[tactic(auto, unfolding(pdw_walk::specs::Statements::with_known, pdw_walk::specs::Statements::known))]
 fn with_known(
     alloc: Global,
     catalog: &Catalog,
@@ -27,7 +28,10 @@ fn with_known(
 {
     match catalog.table(name) {
         Some(_) => Ok(work),
-        None => Err(JudgeFault::UnknownTable(name.try_copy(alloc)?)),
+        None => {
+            drop(work);
+            Err(JudgeFault::UnknownTable(name.try_copy(alloc)?))
+        }
     }
 }
 
@@ -58,7 +62,7 @@ fn check_plan(
 }
 
 /// What a statement does, with numbers in place of names, or its first fault.
-#[tactic(auto, unfolding(crate::specs::Statements::statement))]
+#[tactic(auto, unfolding(pdw_walk::specs::Statements::statement))]
 pub fn judge(alloc: Global, catalog: &Catalog, stmt: &Statement) -> Result<Judged, JudgeFault>
     ensures { Answers (judgement catalog.now stmt.now) result }
 {

@@ -2,16 +2,14 @@
 
 ghost use Rattle.std.specs.Prelude.{◌≡◌, length, map, position};
 ghost use Rattle.std.specs.List.{list_any};
-ghost use Rattle.pdw_scope.specs.Queries as spec;
-ghost use Rattle.pdw_scope.specs.Walk.{Walks, beginning, each};
+ghost use Rattle.pdw_walk.specs.Queries as spec;
+ghost use Rattle.pdw_walk.specs.Walk.{Walks, beginning, each};
 
-use crate::columns::kept_place;
-use crate::entry::{Column, Walked};
-use crate::fault::JudgeFault;
-use crate::judged::JudgedSelect;
-use crate::text::text_from;
 use pdw_base::Str;
+use pdw_form::JudgedSelect;
+use pdw_resolve::{kept_place, text_from};
 use pdw_syntax::{OrderKey, OrderName};
+use pdw_walk::{Column, JudgeFault, Walked};
 use sqlite_items::Items as ListOf;
 use std::alloc::Global;
 
@@ -64,7 +62,7 @@ fn order_place(alloc: Global, outputs: &[Column], name: &OrderName) -> Result<u3
     }
 }
 
-#[tactic(auto, unfolding(crate::specs::Queries::order_key))]
+#[tactic(auto, unfolding(pdw_walk::specs::Queries::order_key))]
 fn order_key(alloc: Global, outputs: &[Column], key: &OrderKey) -> Result<(u32, bool), JudgeFault>
     ensures { Walks (spec.order_key (map spec.name_of outputs.now) key.now beginning) result beginning }
 {
@@ -72,7 +70,7 @@ fn order_key(alloc: Global, outputs: &[Column], key: &OrderKey) -> Result<(u32, 
     Ok((place, key.descending))
 }
 
-#[tactic(auto, using(crate::proofs::Turns::turns))]
+#[tactic(auto, using(pdw_resolve::proofs::Turns::turns))]
 fn order_keys(
     alloc: Global,
     outputs: &[Column],

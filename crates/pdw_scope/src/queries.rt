@@ -3,28 +3,23 @@
 ghost use Rattle.std.specs.Prelude.{None, Some, map};
 ghost use Rattle.std.specs.List.{flat_map};
 ghost use Rattle.std.specs.Option.{option_map};
-ghost use Rattle.pdw_scope.specs.Exprs.{expr as expr_walk};
-ghost use Rattle.pdw_scope.specs.Froms as from;
-ghost use Rattle.pdw_scope.specs.Conjuncts as conjunct;
-ghost use Rattle.pdw_scope.specs.Queries as spec;
-ghost use Rattle.pdw_scope.specs.Queries.{condition, text};
-ghost use Rattle.pdw_scope.specs.Walk.{Walks, over};
+ghost use Rattle.pdw_walk.specs.Exprs.{expr as expr_walk};
+ghost use Rattle.pdw_walk.specs.Froms as from;
+ghost use Rattle.pdw_walk.specs.Conjuncts as conjunct;
+ghost use Rattle.pdw_walk.specs.Queries as spec;
+ghost use Rattle.pdw_walk.specs.Queries.{condition, text};
+ghost use Rattle.pdw_walk.specs.Walk.{Walks, over};
 
-use crate::conjuncts::{
-    Around, enclosing, is_correlated, is_one_column, no_conjuncts, plain_conjunct, with_subquery,
-};
-use crate::entry::{Conjuncts, Element, Entry, Role, Typed, Walked};
-use crate::exprs::expr;
-use crate::fault::JudgeFault;
-use crate::froms::{Sources, derived, joined, named, no_sources, with_element};
-use crate::groups::{Frame, after_where};
-use crate::judged::JSub;
-use crate::names::is_grouped;
-use crate::place::Place;
-use crate::walk::Walk;
 use pdw_base::Str;
 use pdw_catalog::Catalog;
+use pdw_clauses::{
+    Around, Frame, Sources, after_where, derived, enclosing, is_correlated, is_one_column, joined,
+    named, no_conjuncts, no_sources, plain_conjunct, with_element, with_subquery,
+};
+use pdw_form::JSub;
+use pdw_resolve::{Place, Walk, expr, is_grouped};
 use pdw_syntax::{JoinPart, Primary, Query, SqlCond, SqlExpr, TableRef};
+use pdw_walk::{Conjuncts, Element, Entry, JudgeFault, Role, Typed, Walked};
 use sqlite_items::Items as ListOf;
 use std::alloc::Global;
 
@@ -62,7 +57,7 @@ fn subquery(
 }
 
 #[cycle(walk)]
-#[tactic(auto, unfolding(crate::specs::Conjuncts::in_walk, crate::specs::Conjuncts::in_subquery))]
+#[tactic(auto, unfolding(pdw_walk::specs::Conjuncts::in_walk, pdw_walk::specs::Conjuncts::in_subquery))]
 fn in_query(
     alloc: Global,
     walk: &mut Walk,
@@ -86,7 +81,7 @@ fn in_query(
 }
 
 #[cycle(walk)]
-#[tactic(auto, unfolding(crate::specs::Conjuncts::exists_walk))]
+#[tactic(auto, unfolding(pdw_walk::specs::Conjuncts::exists_walk))]
 fn exists(
     alloc: Global,
     walk: &mut Walk,
@@ -173,7 +168,7 @@ fn negation(
 }
 
 #[cycle(walk)]
-#[tactic(auto, using(crate::proofs::Turns::turns))]
+#[tactic(auto, using(pdw_resolve::proofs::Turns::turns))]
 fn conjuncts_of_parts(
     alloc: Global,
     walk: &mut Walk,
@@ -289,7 +284,7 @@ fn join(
 }
 
 #[cycle(walk)]
-#[tactic(auto, using(crate::proofs::Turns::turns))]
+#[tactic(auto, using(pdw_resolve::proofs::Turns::turns))]
 fn joins(
     alloc: Global,
     catalog: &Catalog,
@@ -340,7 +335,7 @@ fn source(
 
 // The elements of FROM.
 #[cycle(walk)]
-#[tactic(auto, using(crate::proofs::Turns::turns))]
+#[tactic(auto, using(pdw_resolve::proofs::Turns::turns))]
 fn sources(
     alloc: Global,
     catalog: &Catalog,
@@ -359,7 +354,7 @@ fn sources(
 
 // A query from WHERE on.
 #[cycle(walk)]
-#[tactic(auto, unfolding(crate::specs::Queries::after_from), using(crate::proofs::Nodes::grouped_same))]
+#[tactic(auto, unfolding(pdw_walk::specs::Queries::after_from), using(pdw_resolve::proofs::Nodes::grouped_same))]
 fn after_from<'a>(
     alloc: Global,
     catalog: &'a Catalog,
@@ -392,7 +387,7 @@ fn after_from<'a>(
 
 // The parts of a query.
 #[cycle(walk)]
-#[tactic(auto, unfolding(crate::specs::Queries::parts_walk))]
+#[tactic(auto, unfolding(pdw_walk::specs::Queries::parts_walk))]
 fn parts(
     alloc: Global,
     catalog: &Catalog,
@@ -409,7 +404,7 @@ fn parts(
 
 /// A query in its role, within the scopes that enclose it, the innermost first.
 #[cycle(walk)]
-#[tactic(auto, unfolding(crate::specs::Queries::query_step))]
+#[tactic(auto, unfolding(pdw_walk::specs::Queries::query_step))]
 pub fn query(
     alloc: Global,
     catalog: &Catalog,

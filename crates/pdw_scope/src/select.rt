@@ -1,21 +1,20 @@
 //! A query with the order of its rows.
 
-ghost use Rattle.pdw_scope.specs.Queries as spec;
-ghost use Rattle.pdw_scope.specs.Statements.{Answers, answer_of};
-ghost use Rattle.pdw_scope.specs.Walk.{Walks, beginning};
+ghost use Rattle.pdw_walk.specs.Queries as spec;
+ghost use Rattle.pdw_walk.specs.Statements.{Answers, answer_of};
+ghost use Rattle.pdw_walk.specs.Walk.{Walks, beginning};
 
-use crate::entry::Role;
-use crate::fault::JudgeFault;
-use crate::judged::JudgedSelect;
 use crate::order::ordered;
 use crate::queries::query;
-use crate::walk::Walk;
 use pdw_catalog::Catalog;
+use pdw_form::JudgedSelect;
+use pdw_resolve::Walk;
 use pdw_syntax::Select;
+use pdw_walk::{JudgeFault, Role};
 use std::alloc::Global;
 
 // A SELECT: its query, and then its order keys.
-#[tactic(auto, unfolding(crate::specs::Queries::select))]
+#[tactic(auto, unfolding(pdw_walk::specs::Queries::select))]
 fn walk_select(
     alloc: Global,
     catalog: &Catalog,

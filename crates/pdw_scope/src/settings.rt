@@ -2,22 +2,21 @@
 
 ghost use Rattle.std.specs.Prelude.{◌≡◌, ◌≤◌, [], IfOk};
 ghost use Rattle.std.specs.List.{list_any};
-ghost use Rattle.pdw_scope.specs.Statements as spec;
-ghost use Rattle.pdw_scope.specs.Statements.{Answers, answer_of};
-ghost use Rattle.pdw_scope.specs.Walk.{Walks, beginning, over};
+ghost use Rattle.pdw_walk.specs.Statements as spec;
+ghost use Rattle.pdw_walk.specs.Statements.{Answers, answer_of};
+ghost use Rattle.pdw_walk.specs.Walk.{Walks, beginning, over};
 
-use crate::columns::place_of_column;
-use crate::fault::{JudgeFault, MOST_BUDGET, MOST_COST, MOST_STATISTIC, MOST_WIDTH};
-use crate::judged::Judged;
-use crate::text::text_from;
 use pdw_base::Str;
 use pdw_catalog::{Catalog, Column};
+use pdw_form::Judged;
+use pdw_resolve::{place_of_column, text_from};
 use pdw_syntax::CostPart;
+use pdw_walk::{JudgeFault, MOST_BUDGET, MOST_COST, MOST_STATISTIC, MOST_WIDTH};
 use sqlite_items::Items as ListOf;
 use std::alloc::Global;
 
 // The number of a setting or a statistic, from a least to a greatest one.
-#[tactic(auto, unfolding(crate::specs::Statements::setting))]
+#[tactic(auto, unfolding(pdw_walk::specs::Statements::setting))]
 fn setting(
     alloc: Global,
     name: &str,
@@ -38,7 +37,7 @@ fn setting(
 }
 
 /// A budget of exploration.
-#[tactic(auto, unfolding(crate::specs::Statements::budget_setting))]
+#[tactic(auto, unfolding(pdw_walk::specs::Statements::budget_setting))]
 pub fn budget_setting(alloc: Global, amount: i64) -> Result<Judged, JudgeFault>
     ensures { Answers (answer_of (spec.budget_setting amount beginning)) result }
 {
@@ -60,7 +59,7 @@ fn cost_name(part: CostPart) -> &'static str
 }
 
 /// A constant of the cost of moving rows.
-#[tactic(auto, unfolding(crate::specs::Statements::cost_setting))]
+#[tactic(auto, unfolding(pdw_walk::specs::Statements::cost_setting))]
 pub fn cost_setting(alloc: Global, part: CostPart, amount: i64) -> Result<Judged, JudgeFault>
     ensures { Answers (answer_of (spec.cost_setting part amount beginning)) result }
 {
@@ -99,7 +98,7 @@ fn new_statistic(
 }
 
 // The statistics of the columns that are named, from left to right.
-#[tactic(auto, using(crate::proofs::Turns::turns))]
+#[tactic(auto, using(pdw_resolve::proofs::Turns::turns))]
 fn new_statistics(
     alloc: Global,
     columns: &[Column],
@@ -115,7 +114,7 @@ fn new_statistics(
 }
 
 /// Statistics of a table, which has to be there.
-#[tactic(auto, unfolding(crate::specs::Statements::hand, crate::specs::Statements::known))]
+#[tactic(auto, unfolding(pdw_walk::specs::Statements::hand, pdw_walk::specs::Statements::known))]
 pub fn hand(
     alloc: Global,
     catalog: &Catalog,

@@ -1,5 +1,5 @@
 use Rattle.std.proofs.Common.{◌≡◌, take}
-use Rattle.pdw_bind.specs.Bind as spec
+use Rattle.pdw_form.specs.Columns as spec
 use Rattle.pdw_bind.proofs.groups.each_item_once.Given as goal
 
 abbrev pub invariant-loop-item : goal.invariant-loop-item

@@ -1,5 +1,5 @@
 use Rattle.std.proofs.Common.{◌≡◌, drop}
-use Rattle.pdw_meaning.specs.Answer as spec
+use Rattle.pdw_semantics.specs.Answer as spec
 use Rattle.pdw_engine.proofs.order.by_keys.Given as goal
 
 -- the rows do not differ by the keys so far

@@ -2,7 +2,7 @@ use Rattle.std.proofs.Common.{rules, subst, sym}
 use Rattle.std.proofs.lemmas.Fn.{always_returns_same}
 use Rattle.std.proofs.lemmas.List.Sorted.{ranks_by}
 use Rattle.std.specs.Ordering.{is_lt}
-use Rattle.pdw_meaning.specs.Answer.{IsOrdered, keys_cmp}
+use Rattle.pdw_semantics.specs.Answer.{IsOrdered, keys_cmp}
 use Rattle.pdw_engine.proofs.OrderLaws.{IsOrdered-sorted, keys_total}
 use Rattle.pdw_engine.proofs.order.ordered.Goals as goal
 

@@ -1,5 +1,5 @@
 use Rattle.std.proofs.Common.{◌≡◌, map, take}
-use Rattle.pdw_meaning.specs.Environment.{labelled}
+use Rattle.pdw_semantics.specs.Environment.{labelled}
 use Rattle.pdw_meaning.proofs.elements.labelled_rows.Given as goal
 
 abbrev pub invariant-loop-row : goal.invariant-loop-row

@@ -1,5 +1,5 @@
 use Rattle.std.proofs.Common.{◌≡◌, map, take}
-use Rattle.pdw_meaning.specs.Froms.{label_of}
+use Rattle.pdw_semantics.specs.Froms.{label_of}
 use Rattle.pdw_meaning.proofs.elements.name_labels.Given as goal
 
 abbrev pub invariant-loop-name : goal.invariant-loop-name

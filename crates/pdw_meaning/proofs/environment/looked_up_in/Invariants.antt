@@ -1,5 +1,5 @@
 use Rattle.std.proofs.Common.{◌≡◌, drop}
-use Rattle.pdw_meaning.specs.Environment.{looked_up}
+use Rattle.pdw_semantics.specs.Environment.{looked_up}
 use Rattle.pdw_meaning.proofs.environment.looked_up_in.Given as goal
 
 abbrev pub invariant-loop-scope : goal.invariant-loop-scope

@@ -1,6 +1,6 @@
 use Rattle.std.proofs.Common.{arith}
 use Rattle.std.proofs.lemmas.Grind.{common_steps}
-use Rattle.pdw_meaning.specs.Environment.{group_of}
+use Rattle.pdw_semantics.specs.Environment.{group_of}
 use Rattle.pdw_meaning.proofs.ExprLemmas.{value_of-aggregate}
 use Rattle.pdw_meaning.proofs.exprs.+value.Goals as goal
 

@@ -1,8 +1,8 @@
 use Rattle.std.proofs.Common.{◌≡◌, fold, map, take}
 use Rattle.std.specs.Option.{option_map}
 use Rattle.pdw_expr.specs.Arithmetic.{computed}
-use Rattle.pdw_meaning.specs.Environment.{alone, group_of}
-use Rattle.pdw_meaning.specs.Exprs.{argument, value_of}
+use Rattle.pdw_semantics.specs.Environment.{alone, group_of}
+use Rattle.pdw_semantics.specs.Exprs.{argument, value_of}
 use Rattle.pdw_meaning.proofs.exprs.+value.Given as goal
 
 abbrev pub invariant-value_of-loop-link : goal.invariant-value_of-loop-link

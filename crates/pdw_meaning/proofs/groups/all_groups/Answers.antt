@@ -1,8 +1,8 @@
 use Rattle.std.proofs.Common.{◌≡◌, ◌∷◌, List, [], map, sym, ap, ◌∙◌}
 use Rattle.std.proofs.lemmas.Result.{IfOk-weaker}
 use Rattle.pdw_expr.specs.Parts.{parts}
-use Rattle.pdw_meaning.specs.Environment.{Scope, group_of}
-use Rattle.pdw_meaning.specs.Queries.{all_groups, key_of}
+use Rattle.pdw_semantics.specs.Environment.{Scope, group_of}
+use Rattle.pdw_semantics.specs.Queries.{all_groups, key_of}
 use Rattle.pdw_meaning.proofs.GroupLemmas.{groups-some, groups_of_singles}
 use Rattle.pdw_meaning.proofs.groups.all_groups.Goals as goal
 

@@ -1,5 +1,5 @@
 use Rattle.std.proofs.Common.{◌≡◌, take}
-use Rattle.pdw_meaning.specs.Queries.{key_of}
+use Rattle.pdw_semantics.specs.Queries.{key_of}
 use Rattle.pdw_meaning.proofs.groups.key_of.Given as goal
 
 abbrev pub invariant-loop-reference : goal.invariant-loop-reference

@@ -1,5 +1,5 @@
 use Rattle.std.proofs.Common.{◌≡◌, map, take}
-use Rattle.pdw_meaning.specs.Queries.{key_of}
+use Rattle.pdw_semantics.specs.Queries.{key_of}
 use Rattle.pdw_meaning.proofs.groups.keys_of.Given as goal
 
 abbrev pub invariant-loop-row : goal.invariant-loop-row

@@ -1,6 +1,6 @@
 use Rattle.std.proofs.Common.{◌≡◌, filter, take}
 use Rattle.pdw_expr.specs.Parts.{same_row}
-use Rattle.pdw_meaning.specs.Queries.{key_of}
+use Rattle.pdw_semantics.specs.Queries.{key_of}
 use Rattle.pdw_meaning.proofs.groups.part_of.Given as goal
 
 abbrev pub invariant-loop-row : goal.invariant-loop-row

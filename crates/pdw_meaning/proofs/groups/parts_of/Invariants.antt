@@ -1,6 +1,6 @@
 use Rattle.std.proofs.Common.{◌≡◌, filter, map, take}
 use Rattle.pdw_expr.specs.Parts.{same_row}
-use Rattle.pdw_meaning.specs.Queries.{key_of}
+use Rattle.pdw_semantics.specs.Queries.{key_of}
 use Rattle.pdw_meaning.proofs.groups.parts_of.Given as goal
 
 abbrev pub invariant-loop-key : goal.invariant-loop-key

@@ -1,7 +1,7 @@
 use Rattle.std.proofs.Common.{◌≡◌, take}
 use Rattle.std.specs.List.{flat_map}
-use Rattle.pdw_meaning.specs.Environment.{group_of}
-use Rattle.pdw_meaning.specs.Queries.{item_values}
+use Rattle.pdw_semantics.specs.Environment.{group_of}
+use Rattle.pdw_semantics.specs.Queries.{item_values}
 use Rattle.pdw_meaning.proofs.items.values_of_list.Given as goal
 
 abbrev pub invariant-loop-item : goal.invariant-loop-item

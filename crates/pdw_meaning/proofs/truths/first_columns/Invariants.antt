@@ -1,5 +1,5 @@
 use Rattle.std.proofs.Common.{◌≡◌, map, take}
-use Rattle.pdw_meaning.specs.Conds.{first_column}
+use Rattle.pdw_expr.specs.Predicates.{first_column}
 use Rattle.pdw_meaning.proofs.truths.first_columns.Given as goal
 
 abbrev pub invariant-loop-row : goal.invariant-loop-row

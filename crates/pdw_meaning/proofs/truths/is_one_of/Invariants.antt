@@ -1,5 +1,5 @@
 use Rattle.std.proofs.Common.{◌≡◌, take}
-use Rattle.pdw_meaning.specs.Conds.{is_one_of}
+use Rattle.pdw_expr.specs.Predicates.{is_one_of}
 use Rattle.pdw_meaning.proofs.truths.is_one_of.Given as goal
 
 abbrev pub invariant-loop-other : goal.invariant-loop-other

@@ -1,6 +1,6 @@
 use Rattle.std.proofs.Common.{◌≡◌, map, take}
-use Rattle.pdw_meaning.specs.Environment.{group_of}
-use Rattle.pdw_meaning.specs.Exprs.{value_of}
+use Rattle.pdw_semantics.specs.Environment.{group_of}
+use Rattle.pdw_semantics.specs.Exprs.{value_of}
 use Rattle.pdw_meaning.proofs.truths.values_over.Given as goal
 
 abbrev pub invariant-loop-other : goal.invariant-loop-other

@@ -1,7 +1,7 @@
 use Rattle.std.proofs.Common.{◌≡◌, [], take}
-use Rattle.pdw_scope.specs.Statements.{new_column}
-use Rattle.pdw_scope.specs.Walk.{beginning, over}
-use Rattle.pdw_scope.proofs.Turns.{Left}
+use Rattle.pdw_walk.specs.Statements.{new_column}
+use Rattle.pdw_walk.specs.Walk.{beginning, over}
+use Rattle.pdw_resolve.proofs.Turns.{Left}
 use Rattle.pdw_scope.proofs.create.new_columns.Given as goal
 
 abbrev pub invariant-loop-column : goal.invariant-loop-column

@@ -1,8 +1,8 @@
 use Rattle.std.proofs.Common.{refl}
-use Rattle.pdw_scope.specs.Froms.{join_after, no_sources, source}
-use Rattle.pdw_scope.specs.Conjuncts.{conjunct_walk}
-use Rattle.pdw_scope.specs.Queries.{condition, join, table_ref}
-use Rattle.pdw_scope.proofs.Spread.{flat_map-begins, map-begins}
+use Rattle.pdw_walk.specs.Froms.{join_after, no_sources, source}
+use Rattle.pdw_walk.specs.Conjuncts.{conjunct_walk}
+use Rattle.pdw_walk.specs.Queries.{condition, join, table_ref}
+use Rattle.pdw_resolve.proofs.Spread.{flat_map-begins, map-begins}
 use Rattle.pdw_scope.proofs.queries.+walk.Goals as goal
 
 pub conjuncts_of_parts-loop-part-init : goal.conjuncts_of_parts-loop-part-init

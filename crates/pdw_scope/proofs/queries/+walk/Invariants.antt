@@ -1,10 +1,10 @@
 use Rattle.std.proofs.Common.{map}
 use Rattle.std.specs.List.{flat_map}
-use Rattle.pdw_scope.specs.Froms.{join_after, no_sources, source}
-use Rattle.pdw_scope.specs.Conjuncts.{conjuncts_walk}
-use Rattle.pdw_scope.specs.Queries.{condition, join, table_ref}
-use Rattle.pdw_scope.specs.Walk.{over}
-use Rattle.pdw_scope.proofs.Turns.{Left}
+use Rattle.pdw_walk.specs.Froms.{join_after, no_sources, source}
+use Rattle.pdw_walk.specs.Conjuncts.{conjuncts_walk}
+use Rattle.pdw_walk.specs.Queries.{condition, join, table_ref}
+use Rattle.pdw_walk.specs.Walk.{over}
+use Rattle.pdw_resolve.proofs.Turns.{Left}
 use Rattle.pdw_scope.proofs.queries.+walk.Given as goal
 
 abbrev pub invariant-conjuncts_of_parts-loop-part : goal.invariant-conjuncts_of_parts-loop-part

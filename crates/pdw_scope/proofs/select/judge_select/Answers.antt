@@ -1,7 +1,7 @@
 use Rattle.std.proofs.Common.{subst}
 use Rattle.pdw_scope.proofs.Orders.{answers}
-use Rattle.pdw_scope.specs.Queries.{select}
-use Rattle.pdw_scope.specs.Walk.{Walk, Walks, beginning}
+use Rattle.pdw_walk.specs.Queries.{select}
+use Rattle.pdw_walk.specs.Walk.{Walk, Walks, beginning}
 use Rattle.pdw_scope.proofs.select.judge_select.Goals as goal
 
 pub returns : goal.returns

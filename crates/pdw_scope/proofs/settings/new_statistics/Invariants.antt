@@ -1,7 +1,7 @@
 use Rattle.std.proofs.Common.{[]}
-use Rattle.pdw_scope.specs.Statements.{new_statistic}
-use Rattle.pdw_scope.specs.Walk.{beginning, over}
-use Rattle.pdw_scope.proofs.Turns.{Left}
+use Rattle.pdw_walk.specs.Statements.{new_statistic}
+use Rattle.pdw_walk.specs.Walk.{beginning, over}
+use Rattle.pdw_resolve.proofs.Turns.{Left}
 use Rattle.pdw_scope.proofs.settings.new_statistics.Given as goal
 
 abbrev pub invariant-loop-statistic : goal.invariant-loop-statistic

@@ -5,8 +5,8 @@ use Rattle.pdw_engine.proofs.LawfulLaws.{Gives-selected}
 use Rattle.pdw_engine.specs.Executes.{IsGiven}
 use Rattle.pdw_engine.specs.Plain.{plain_of}
 use Rattle.pdw_engine.specs.Prepared.{Prepares}
-use Rattle.pdw_scope.specs.declared.judged.Judged.TheVariants as judged
-use Rattle.pdw_scope.specs.declared.judged.Judged.{Judged}
+use Rattle.pdw_form.specs.declared.judged.Judged.TheVariants as judged
+use Rattle.pdw_form.specs.declared.judged.Judged.{Judged}
 use Rattle.pdw_engine.proofs.session.Session.execute.Goals as goal
 
 pub create-requires : goal.create-requires

@@ -1,5 +1,5 @@
 use Rattle.std.proofs.Common.{subst}
-use Rattle.pdw_bind.specs.Sound.{HaveColumns}
+use Rattle.pdw_form.specs.Sound.{HaveColumns}
 use Rattle.pdw_catalog.specs.Appliance.{Contents}
 use Rattle.pdw_engine.proofs.LawfulLaws.{HaveColumns-sound}
 use Rattle.pdw_engine.proofs.session.Session.tables_have_columns.Goals as goal

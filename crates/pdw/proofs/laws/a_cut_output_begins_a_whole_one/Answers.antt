@@ -1,5 +1,0 @@
-use Rattle.pdw.proofs.WholeLemmas.{BeginsOutput-cut}
-use Rattle.pdw.proofs.laws.a_cut_output_begins_a_whole_one.Goals as goal
-
-pub returns : goal.returns
-returns c = BeginsOutput-cut

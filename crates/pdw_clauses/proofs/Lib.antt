@@ -1,0 +1,2 @@
+-- Items with their places: one item more
+pub mod Places

@@ -1,0 +1,19 @@
+//! Laws of scripts and of lawful outputs.
+
+ghost use Rattle.std.specs.Prelude.{◌≡◌, ℕ, List};
+ghost use Rattle.pdw_syntax.specs.declared.statement.Statement.{Statement as StatementOf};
+ghost use Rattle.pdw_run.specs.Output.{BeginsOutput, Cut, Held, Outputs};
+ghost use Rattle.pdw_run.specs.Reading.{IsScript, IsTextFault};
+ghost use Rattle.pdw_run.specs.Trace.{Trace};
+
+/// The bytes of a script say one list of statements, or else one line refuses them.
+pub fn a_script_says_one_thing()
+    ensures statements { (script : List ℕ) (some others : List StatementOf) → IsScript script some → IsScript script others → some ≡ others }
+    ensures line { (script line other : List ℕ) → IsTextFault script line → IsTextFault script other → line ≡ other }
+    ensures either { (script line : List ℕ) (statements : List StatementOf) → IsScript script statements → ¬ (IsTextFault script line) }
+{}
+
+/// What a failing sink cut is the beginning of a whole lawful output.
+pub fn a_cut_output_begins_a_whole_one()
+    ensures { (held : Held) (nodes : ℕ) (script : List ℕ) (out : Trace) → Outputs held nodes script Cut out → BeginsOutput held nodes script out.text }
+{}

@@ -1,0 +1,20 @@
+//! A whole run: the words of the command line, the script, its statements, and what they print.
+#![tactic(auto)]
+
+pub mod laws;
+mod perform;
+mod reading;
+mod refusal;
+mod run;
+mod status;
+mod step;
+mod stop;
+mod text;
+mod words;
+
+pub use reading::read_script;
+pub use refusal::refusal_line;
+pub use run::run;
+pub use status::Status;
+pub use step::run_statements;
+pub use text::push_rows;

@@ -1,9 +1,0 @@
-use Rattle.std.proofs.Common.{map}
-use Rattle.pdw_scope.specs.Conds.{tests}
-use Rattle.pdw_scope.specs.Queries.{condition}
-use Rattle.pdw_scope.proofs.Turns.{LeftEach}
-use Rattle.pdw_scope.proofs.conds.+conditions.Given as goal
-
-abbrev pub invariant-tests-loop-part : goal.invariant-tests-loop-part
-invariant-tests-loop-part l =
-    LeftEach (λ part. (condition part).test l.place) (tests (map condition l.fn.parts) l.place l.initial.walk) l.parts l.part-index l.found l.walk

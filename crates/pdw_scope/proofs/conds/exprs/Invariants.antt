@@ -1,7 +1,0 @@
-use Rattle.pdw_scope.specs.Exprs.{expr}
-use Rattle.pdw_scope.specs.Walk.{each}
-use Rattle.pdw_scope.proofs.Turns.{LeftEach}
-use Rattle.pdw_scope.proofs.conds.exprs.Given as goal
-
-abbrev pub invariant-loop-value : goal.invariant-loop-value
-invariant-loop-value l = LeftEach (λ value. expr value l.place) (each (λ value. expr value l.place) l.fn.values l.fn.walk) l.values l.value-index l.found l.walk

@@ -1,7 +1,0 @@
-use Rattle.pdw_scope.specs.Lookup.{column}
-use Rattle.pdw_scope.specs.Walk.{each}
-use Rattle.pdw_scope.proofs.Turns.{LeftEach}
-use Rattle.pdw_scope.proofs.groups.keys.Given as goal
-
-abbrev pub invariant-loop-reference : goal.invariant-loop-reference
-invariant-loop-reference l = LeftEach (column l.place) (each (column l.place) l.fn.references l.fn.walk) l.references l.reference-index l.found l.walk

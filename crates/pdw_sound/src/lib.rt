@@ -1,0 +1,6 @@
+//! What is judged is sound, and its tree means the query.
+#![tactic(auto)]
+
+mod laws;
+
+pub use laws::the_tree_means_its_query;

@@ -1,0 +1,4 @@
+-- Taking a walk that was done into its parts
+pub mod Outcomes
+-- Loops of the walk that were done, turn by turn
+pub mod Loops

@@ -1,0 +1,11 @@
+pub mod Slot
+pub mod Walk
+pub mod Lookup
+pub mod Names
+pub mod Exprs
+pub mod Conds
+pub mod Froms
+pub mod Conjuncts
+pub mod Items
+pub mod Queries
+pub mod Statements

@@ -1,0 +1,110 @@
+use pdw_base::{NoMemory, Str};
+use std::alloc::{AllocError, AllocFailed};
+
+/// The greatest number of table names in the FROM clauses of a statement.
+pub const MOST_REFERENCES: usize = 10;
+
+/// The greatest number of used columns, computed items and aggregates of a statement.
+pub const MOST_USED: usize = 128;
+
+/// The greatest number of output columns of a query.
+pub const MOST_ITEMS: usize = 128;
+
+/// The greatest number of queries of a statement.
+pub const MOST_QUERIES: usize = 64;
+
+/// The greatest budget of exploration. The least is 1.
+pub const MOST_BUDGET: usize = 100_000;
+
+/// The greatest constant of the cost of moving rows. The least is 1.
+pub const MOST_COST: usize = 1_000;
+
+/// The greatest number of rows, and of distinct values, that statistics may have.
+pub const MOST_STATISTIC: usize = 1_000_000_000_000;
+
+/// The greatest width of a column in statistics, in bytes. The least is 1.
+pub const MOST_WIDTH: usize = 1_000;
+
+/// Why a statement is refused by its words and the tables that there are. Names are in lower case, with their alias
+/// and a dot before them where that is written.
+#[derive(Debug, Drop)]
+pub enum JudgeFault {
+    /// CREATE of a table that is there.
+    TableExists(Str),
+    UnknownTable(Str),
+    /// A name stands twice where it may stand once.
+    DuplicateName(Str),
+    UnknownColumn(Str),
+    /// The name fits several columns: SQL-92, 6.4.
+    Ambiguous(Str),
+    TypeMismatch,
+    /// A column of a grouped query that is no grouping column, outside an aggregate: SQL-92, 7.9.
+    NotGrouped(Str),
+    /// An aggregate where none may stand: SQL-92, 6.5.
+    AggregatePlace,
+    /// A subquery where none may stand.
+    SubqueryPlace,
+    /// A column of an enclosing query where none may stand.
+    OuterReference(Str),
+    /// More than a statement may have.
+    Limit { which: LimitName, most: u64 },
+    /// A number that a setting or a statistic can't have.
+    BadSetting { name: Str, amount: i64 },
+    /// There was not the memory to judge.
+    Memory,
+}
+
+/// What is limited.
+#[derive(Clone, Copy, Debug, PartialEq, Eq)]
+pub enum LimitName {
+    /// Bytes of a script.
+    Script,
+    /// Bytes of a file.
+    File,
+    Tables,
+    /// Columns of a table.
+    Columns,
+    /// Rows of a table.
+    Rows,
+    /// Table names in the FROM clauses of a statement.
+    References,
+    /// Columns of a statement: used columns of tables, computed items and aggregates together.
+    Used,
+    /// Output columns of a query.
+    Items,
+    /// Queries of a statement, the outermost one included.
+    Queries,
+}
+
+impl From<NoMemory> for JudgeFault {
+    ghost use Rattle.std.specs.Prelude.{◌≡◌};
+    ghost use Rattle.pdw_walk.specs.declared.fault.JudgeFault.TheVariants.{Memory};
+
+    ghost from_gives = { λ _ e. e ≡ Memory };
+
+    fn from(_error: NoMemory) -> JudgeFault {
+        JudgeFault::Memory
+    }
+}
+
+impl From<AllocError> for JudgeFault {
+    ghost use Rattle.std.specs.Prelude.{◌≡◌};
+    ghost use Rattle.pdw_walk.specs.declared.fault.JudgeFault.TheVariants.{Memory};
+
+    ghost from_gives = { λ _ e. e ≡ Memory };
+
+    fn from(_error: AllocError) -> JudgeFault {
+        JudgeFault::Memory
+    }
+}
+
+impl<T: Drop> From<AllocFailed<T>> for JudgeFault {
+    ghost use Rattle.std.specs.Prelude.{◌≡◌};
+    ghost use Rattle.pdw_walk.specs.declared.fault.JudgeFault.TheVariants.{Memory};
+
+    ghost from_gives = { λ _ e. e ≡ Memory };
+
+    fn from(_error: AllocFailed<T>) -> JudgeFault {
+        JudgeFault::Memory
+    }
+}
