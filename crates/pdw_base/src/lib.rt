@@ -27,6 +27,3 @@ pub use schema::{ColId, Schema, row_over_reads_back};
 pub use text::Str;
 pub use truth::Truth;
 pub use value::{Kind, Value, ValueRef};
-
-#[cfg(test)]
-mod tests;

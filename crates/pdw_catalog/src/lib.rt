@@ -5,8 +5,6 @@ mod appliance;
 mod catalog;
 mod node_bags;
 mod table;
-#[cfg(test)]
-mod tests;
 
 pub use appliance::Appliance;
 pub use catalog::Catalog;

@@ -24,6 +24,3 @@ pub use like::is_like;
 pub use logic::{and, is, not, or, truth_from};
 pub use parts::{each_once, is_same_row};
 pub use scalar::{Arith, Scalar};
-
-#[cfg(test)]
-mod tests;

@@ -20,6 +20,3 @@ pub use lex_error::LexError;
 pub use lexer::lex;
 pub use sign::Sign;
 pub use token::{Lexeme, Token};
-
-#[cfg(test)]
-mod tests;

@@ -7,6 +7,3 @@ mod records;
 
 pub use load_error::LoadError;
 pub use records::read_table;
-
-#[cfg(test)]
-mod tests;

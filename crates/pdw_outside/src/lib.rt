@@ -30,6 +30,3 @@ pub use reading::{ReadStop, read_whole};
 pub use sink::Sink;
 pub use std_sink::StdSink;
 pub use writing::write_whole;
-
-#[cfg(test)]
-mod tests;

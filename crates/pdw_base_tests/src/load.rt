@@ -1,26 +1,22 @@
-use crate::{LoadError, read_table};
-use pdw_base::{Kind, Str, Value};
-use pdw_catalog::{Column, MOST_COLUMNS, Placing, Table};
+use pdw_base::{Kind, MOST_COLUMNS, Str, Value};
+use pdw_catalog::{Column, Placing, Table};
+use pdw_load::{LoadError, read_table};
 use sqlite_items::Items;
 use std::alloc::Global;
 use std::test::Fail;
-
-fn text_of(alloc: Global, text: &str) -> Result<Str, Fail> {
-    Ok(Str::from_bytes(alloc, text.as_bytes())?.ok_or("UTF-8")?)
-}
 
 // A table of an INT and a TEXT column, which both allow NULL or both not.
 fn table(alloc: Global, nullable: bool) -> Result<Table, Fail> {
     let mut columns = Vec::new(alloc);
     for (name, kind) in [("id", Kind::Int), ("name", Kind::Text)] {
         columns.push(Column {
-            name: text_of(alloc, name)?,
+            name: Str::from_text(alloc, name)?,
             kind,
             nullable,
         })?;
     }
     Ok(Table {
-        name: text_of(alloc, "people")?,
+        name: Str::from_text(alloc, "people")?,
         columns: Items::from_vec(columns),
         placing: Placing::Hash(0),
     })

@@ -1,28 +1,10 @@
-use crate::*;
+use crate::values::value;
 use pdw_base::{ColId, Kind, Row, Schema, Str, Truth, Value, ValueRef, order};
+use pdw_expr::{Agg, AggKind, Arith, Cmp, Cond, Scalar, eval_cond, eval_scalar};
 use sqlite_items::{Boxed, Items};
 use std::alloc::Global;
 use std::cmp::Ordering;
-use std::process::Abort;
 use std::test::Fail;
-
-fn text(alloc: Global, bytes: &[u8]) -> Result<Value, Fail> {
-    Ok(Value::Text(Str::from_bytes(alloc, bytes)?.ok_or("UTF-8")?))
-}
-
-// A value as a table of cases has it: a text behind a quote, `NULL`, `WIDE`, or a number.
-fn value(alloc: Global, case: &str) -> Result<Value, Fail> {
-    if let Some(bytes) = case.strip_prefix('\'') {
-        return text(alloc, bytes.as_bytes());
-    }
-    if case == "NULL" {
-        return Ok(Value::Null);
-    }
-    if case == "WIDE" {
-        return Ok(Value::Wide(1));
-    }
-    Ok(Value::Int(case.parse::<i64>()?))
-}
 
 fn literal(alloc: Global, case: &str) -> Result<Scalar, Fail> {
     Ok(Scalar::Lit(value(alloc, case)?))
@@ -65,7 +47,7 @@ fn row(alloc: Global) -> Result<Row, Fail> {
     let mut values = Vec::new(alloc);
     values.push(Value::Int(7))?;
     values.push(Value::Null)?;
-    values.push(text(alloc, b"Ann")?)?;
+    values.push(value(alloc, "'Ann")?)?;
     Ok(Row::from_values(values))
 }
 
@@ -162,9 +144,9 @@ fn gives_null(alloc: Global, op: Arith, other: &str) -> Result<bool, Fail> {
 fn an_operand_that_is_no_number_gives_null(rt: HostRuntime) -> Result<(), Fail> {
     let alloc = rt.alloc();
     for op in ['+', '-', '*', '/', '%'] {
-        assert!(rt; gives_null(alloc, operator(op), "NULL")?, "{op}");
-        assert!(rt; gives_null(alloc, operator(op), "'1")?, "{op}");
-        assert!(rt; gives_null(alloc, operator(op), "WIDE")?, "{op}");
+        for other in ["NULL", "'1", "wide 1"] {
+            assert!(rt; gives_null(alloc, operator(op), other)?, "{op} {other}");
+        }
     }
     for op in ['/', '%'] {
         let e = chain(alloc, number(7), operator(op), number(0))?;
@@ -213,14 +195,14 @@ fn a_chain_is_computed_from_left_to_right(rt: HostRuntime) -> Result<(), Fail> {
     Ok(())
 }
 
+const COLUMNS: [(u16, &str); 5] = [(3, "7"), (4, "NULL"), (5, "NULL"), (8, "'Ann"), (9, "NULL")];
+
 #[test]
 fn a_column_that_the_row_has_not_is_null(rt: HostRuntime) -> Result<(), Fail> {
-    let alloc = rt.alloc();
-    assert!(rt; has_value(alloc, &Scalar::Col(ColId(3)), "7")?);
-    assert!(rt; has_value(alloc, &Scalar::Col(ColId(4)), "NULL")?);
-    assert!(rt; has_value(alloc, &Scalar::Col(ColId(5)), "NULL")?);
-    assert!(rt; has_value(alloc, &Scalar::Col(ColId(8)), "'Ann")?);
-    assert!(rt; has_value(alloc, &Scalar::Col(ColId(9)), "NULL")?);
+    for (column, wanted) in COLUMNS {
+        let e = Scalar::Col(ColId(column));
+        assert!(rt; has_value(rt.alloc(), &e, wanted)?, "{column}");
+    }
     Ok(())
 }
 
@@ -230,114 +212,76 @@ fn compares(alloc: Global, a: &str, op: Cmp, b: &str, wanted: Truth) -> Result<b
 }
 
 // The truths where the first value is less, where both are equal, and where it is greater.
-fn check_comparison(
-    rt: &(impl AllocGlobal + Abort),
-    op: Cmp,
-    less: Truth,
-    equal: Truth,
-    greater: Truth,
-) -> Result<(), Fail> {
-    let alloc = rt.alloc();
-    assert!(rt; compares(alloc, "-1", op, "1", less)?, "{op:?}");
-    assert!(rt; compares(alloc, "1", op, "1", equal)?, "{op:?}");
-    assert!(rt; compares(alloc, "1", op, "-1", greater)?, "{op:?}");
-    assert!(rt; compares(alloc, "'a", op, "'a ", less)?, "{op:?}");
-    assert!(rt; compares(alloc, "'a", op, "'a", equal)?, "{op:?}");
-    assert!(rt; compares(alloc, "'a", op, "'Z", greater)?, "{op:?}");
-    assert!(rt; compares(alloc, "NULL", op, "1", Truth::Unknown)?, "{op:?}");
-    assert!(rt; compares(alloc, "1", op, "NULL", Truth::Unknown)?, "{op:?}");
-    assert!(rt;
-        compares(alloc, "NULL", op, "NULL", Truth::Unknown)?,
-        "{op:?}"
-    );
-    assert!(rt; compares(alloc, "1", op, "'1", Truth::Unknown)?, "{op:?}");
-    Ok(())
-}
+const OPERATORS: [(Cmp, char, char, char); 6] = [
+    (Cmp::Eq, 'F', 'T', 'F'),
+    (Cmp::Ne, 'T', 'F', 'T'),
+    (Cmp::Lt, 'T', 'F', 'F'),
+    (Cmp::Le, 'T', 'T', 'F'),
+    (Cmp::Gt, 'F', 'F', 'T'),
+    (Cmp::Ge, 'F', 'T', 'T'),
+];
+
+// Pairs of values, and how they compare.
+const COMPARED: [(&str, &str, Option<Ordering>); 10] = [
+    ("-1", "1", Some(Ordering::Less)),
+    ("1", "1", Some(Ordering::Equal)),
+    ("1", "-1", Some(Ordering::Greater)),
+    ("'a", "'a ", Some(Ordering::Less)),
+    ("'a", "'a", Some(Ordering::Equal)),
+    ("'a", "'Z", Some(Ordering::Greater)),
+    ("NULL", "1", None),
+    ("1", "NULL", None),
+    ("NULL", "NULL", None),
+    ("1", "'1", None),
+];
 
 #[test]
 fn values_of_one_kind_compare(rt: HostRuntime) -> Result<(), Fail> {
-    check_comparison(&rt, Cmp::Eq, Truth::False, Truth::True, Truth::False)?;
-    check_comparison(&rt, Cmp::Ne, Truth::True, Truth::False, Truth::True)?;
-    check_comparison(&rt, Cmp::Lt, Truth::True, Truth::False, Truth::False)?;
-    check_comparison(&rt, Cmp::Le, Truth::True, Truth::True, Truth::False)?;
-    check_comparison(&rt, Cmp::Gt, Truth::False, Truth::False, Truth::True)?;
-    check_comparison(&rt, Cmp::Ge, Truth::False, Truth::True, Truth::True)
-}
-
-fn and_is(alloc: Global, a: Truth, b: Truth, wanted: Truth) -> Result<bool, Fail> {
-    let all = Cond::All(pair(alloc, a, b)?);
-    has_truth(alloc, &all, wanted)
-}
-
-fn or_is(alloc: Global, a: Truth, b: Truth, wanted: Truth) -> Result<bool, Fail> {
-    let any = Cond::Any(pair(alloc, a, b)?);
-    has_truth(alloc, &any, wanted)
-}
-
-fn check_pair(
-    rt: &(impl AllocGlobal + Abort),
-    a: Truth,
-    b: Truth,
-    both: Truth,
-    either: Truth,
-) -> Result<(), Fail> {
-    assert!(rt; and_is(rt.alloc(), a, b, both)?, "{a:?} AND {b:?}");
-    assert!(rt; or_is(rt.alloc(), a, b, either)?, "{a:?} OR {b:?}");
+    for (op, less, equal, greater) in OPERATORS {
+        for (a, b, ordering) in COMPARED {
+            let wanted = match ordering {
+                Some(Ordering::Less) => less,
+                Some(Ordering::Equal) => equal,
+                Some(Ordering::Greater) => greater,
+                None => 'U',
+            };
+            assert!(rt;
+                compares(rt.alloc(), a, op, b, truth(wanted))?,
+                "{a} {op:?} {b}"
+            );
+        }
+    }
     Ok(())
 }
+
+// Two truths, that of both together, and that of either.
+const CONNECTED: [(char, char, char, char); 9] = [
+    ('T', 'T', 'T', 'T'),
+    ('T', 'F', 'F', 'T'),
+    ('T', 'U', 'U', 'T'),
+    ('F', 'T', 'F', 'T'),
+    ('F', 'F', 'F', 'F'),
+    ('F', 'U', 'F', 'U'),
+    ('U', 'T', 'U', 'T'),
+    ('U', 'F', 'F', 'U'),
+    ('U', 'U', 'U', 'U'),
+];
 
 #[test]
 fn and_and_or_are_three_valued(rt: HostRuntime) -> Result<(), Fail> {
-    check_pair(&rt, Truth::True, Truth::True, Truth::True, Truth::True)?;
-    check_pair(&rt, Truth::True, Truth::False, Truth::False, Truth::True)?;
-    check_pair(
-        &rt,
-        Truth::True,
-        Truth::Unknown,
-        Truth::Unknown,
-        Truth::True,
-    )?;
-    check_pair(&rt, Truth::False, Truth::True, Truth::False, Truth::True)?;
-    check_pair(&rt, Truth::False, Truth::False, Truth::False, Truth::False)?;
-    check_pair(
-        &rt,
-        Truth::False,
-        Truth::Unknown,
-        Truth::False,
-        Truth::Unknown,
-    )?;
-    check_pair(
-        &rt,
-        Truth::Unknown,
-        Truth::True,
-        Truth::Unknown,
-        Truth::True,
-    )?;
-    check_pair(
-        &rt,
-        Truth::Unknown,
-        Truth::False,
-        Truth::False,
-        Truth::Unknown,
-    )?;
-    check_pair(
-        &rt,
-        Truth::Unknown,
-        Truth::Unknown,
-        Truth::Unknown,
-        Truth::Unknown,
-    )
-}
-
-#[test]
-fn and_of_none_is_true(rt: HostRuntime) -> Result<(), Fail> {
-    let all = Cond::All(Items::new(rt.alloc()));
-    assert!(rt; has_truth(rt.alloc(), &all, Truth::True)?);
+    for (a, b, both, either) in CONNECTED {
+        let all = Cond::All(pair(rt.alloc(), truth(a), truth(b))?);
+        assert!(rt; has_truth(rt.alloc(), &all, truth(both))?, "{a} AND {b}");
+        let any = Cond::Any(pair(rt.alloc(), truth(a), truth(b))?);
+        assert!(rt; has_truth(rt.alloc(), &any, truth(either))?, "{a} OR {b}");
+    }
     Ok(())
 }
 
 #[test]
-fn or_of_none_is_false(rt: HostRuntime) -> Result<(), Fail> {
+fn and_of_none_is_true_and_or_of_none_is_false(rt: HostRuntime) -> Result<(), Fail> {
+    let all = Cond::All(Items::new(rt.alloc()));
+    assert!(rt; has_truth(rt.alloc(), &all, Truth::True)?);
     let any = Cond::Any(Items::new(rt.alloc()));
     assert!(rt; has_truth(rt.alloc(), &any, Truth::False)?);
     Ok(())
@@ -358,25 +302,24 @@ fn not_is(alloc: Global, a: Truth, wanted: Truth) -> Result<bool, Fail> {
     has_truth(alloc, &not, wanted)
 }
 
-fn check_truth(rt: &(impl AllocGlobal + Abort), a: Truth, opposite: Truth) -> Result<(), Fail> {
-    assert!(rt; not_is(rt.alloc(), a, opposite)?, "NOT {a:?}");
-    assert!(rt; is_test(rt.alloc(), a, Truth::True)?, "{a:?} IS TRUE");
-    assert!(rt; is_test(rt.alloc(), a, Truth::False)?, "{a:?} IS FALSE");
-    assert!(rt; is_test(rt.alloc(), a, Truth::Unknown)?, "{a:?} IS UNKNOWN");
-    Ok(())
-}
-
 #[test]
 fn not_and_is_take_each_truth(rt: HostRuntime) -> Result<(), Fail> {
-    check_truth(&rt, Truth::True, Truth::False)?;
-    check_truth(&rt, Truth::False, Truth::True)?;
-    check_truth(&rt, Truth::Unknown, Truth::Unknown)
+    for (a, opposite) in [('T', 'F'), ('F', 'T'), ('U', 'U')] {
+        assert!(rt; not_is(rt.alloc(), truth(a), truth(opposite))?, "NOT {a}");
+        for asked in ['T', 'F', 'U'] {
+            assert!(rt;
+                is_test(rt.alloc(), truth(a), truth(asked))?,
+                "{a} IS {asked}"
+            );
+        }
+    }
+    Ok(())
 }
 
 #[test]
 fn is_null_is_never_unknown(rt: HostRuntime) -> Result<(), Fail> {
     let alloc = rt.alloc();
-    for (a, wanted) in [("NULL", 'T'), ("0", 'F'), ("'", 'F'), ("WIDE", 'F')] {
+    for (a, wanted) in [("NULL", 'T'), ("0", 'F'), ("'", 'F'), ("wide 1", 'F')] {
         let c = Cond::IsNull(literal(alloc, a)?);
         assert!(rt; has_truth(alloc, &c, truth(wanted))?, "{a} IS NULL");
     }
@@ -442,7 +385,7 @@ fn repeated(alloc: Global, piece: &str, times: usize, end: &str) -> Result<Scala
         whole.push_str(piece)?;
     }
     whole.push_str(end)?;
-    Ok(Scalar::Lit(text(alloc, whole.as_bytes())?))
+    Ok(Scalar::Lit(Value::Text(Str::from_text(alloc, whole.as_str())?)))
 }
 
 fn is_long_like(
@@ -457,13 +400,19 @@ fn is_long_like(
     has_truth(alloc, &c, wanted)
 }
 
+const LONG_LIKES: [(&str, usize, &str, char); 4] = [
+    ("%a", 200, "b", 'F'),
+    ("%a", 200, "%", 'T'),
+    ("%a_", 300, "%b%", 'F'),
+    ("%", 3000, "aab", 'F'),
+];
+
 #[test]
 fn like_tries_no_part_twice(rt: HostRuntime) -> Result<(), Fail> {
-    let alloc = rt.alloc();
-    assert!(rt; is_long_like(alloc, "%a", 200, "b", Truth::False)?);
-    assert!(rt; is_long_like(alloc, "%a", 200, "%", Truth::True)?);
-    assert!(rt; is_long_like(alloc, "%a_", 300, "%b%", Truth::False)?);
-    assert!(rt; is_long_like(alloc, "%", 3000, "aab", Truth::False)?);
+    for (piece, times, end, wanted) in LONG_LIKES {
+        let found = is_long_like(rt.alloc(), piece, times, end, truth(wanted))?;
+        assert!(rt; found, "{piece} {times} {end}");
+    }
     Ok(())
 }
 

@@ -1,5 +1,8 @@
-use crate::*;
 use pdw_base::Str;
+use pdw_outside::{
+    DiskFiles, Failed, HonestFiles, HonestSink, MemFiles, MemSink, ReadStop, StdSink, read_whole,
+    write_whole,
+};
 use std::alloc::Global;
 use std::fs;
 use std::test::Fail;
@@ -9,7 +12,7 @@ const TABLE: &[u8] = b"id,name\n1,Ann\n";
 const NAME: &str = "people.csv";
 
 fn entry(alloc: Global, name: &str, content: &[u8]) -> Result<(Str, Vec<u8>), Fail> {
-    let name = Str::from_bytes(alloc, name.as_bytes())?.ok_or("UTF-8")?;
+    let name = Str::from_text(alloc, name)?;
     Ok((name, Vec::from_slice(alloc, content)?))
 }
 

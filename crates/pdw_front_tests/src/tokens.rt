@@ -1,4 +1,5 @@
-use crate::{LexError, Lexeme, Token, lex};
+use pdw_base::MOST_SCRIPT_BYTES;
+use pdw_lex::{LexError, Lexeme, Token, lex};
 use std::alloc::Global;
 use std::test::Fail;
 
@@ -15,7 +16,7 @@ fn shown_token(alloc: Global, token: &Token) -> Result<String, Fail> {
 
 // The tokens with a bar after each, or the error.
 fn shown(alloc: Global, script: &[u8]) -> Result<String, Fail> {
-    if script.len() > 1_048_576 {
+    if script.len() > MOST_SCRIPT_BYTES {
         return Ok(format!(in alloc; "too long")?);
     }
     match lex(alloc, script) {
@@ -92,7 +93,7 @@ const KEYWORDS: &[u8] =
 #[test]
 fn keywords_are_known_in_any_case(rt: HostRuntime) -> Result<(), Fail> {
     let alloc = rt.alloc();
-    if KEYWORDS.len() > 1_048_576 {
+    if KEYWORDS.len() > MOST_SCRIPT_BYTES {
         return Ok(());
     }
     let tokens = lex(alloc, KEYWORDS)?;
@@ -131,7 +132,7 @@ fn texts_have_at_most_1000_bytes(rt: HostRuntime) -> Result<(), Fail> {
     let alloc = rt.alloc();
     for (count, fault) in [(1_000, None), (1_001, Some(LexError::LongText { at: 0 }))] {
         let script = two_texts(alloc, count)?;
-        if script.len() > 1_048_576 {
+        if script.len() > MOST_SCRIPT_BYTES {
             return Ok(());
         }
         assert_eq!(rt; lex(alloc, &script).err(), fault);

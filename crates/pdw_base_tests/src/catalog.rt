@@ -4,30 +4,24 @@ ghost use Rattle.pdw_catalog.specs.Table.{FitsTable, IsPlaced};
 ghost use Rattle.pdw_catalog.specs.Appliance.{creating, empty_of};
 ghost use Rattle.pdw_catalog.specs.Sample.{sample_columns, sample_table};
 
-use crate::{Appliance, Column, Placing, Table};
 use pdw_base::{Bag, Kind, NoMemory, NodeCount, Row, Str, Value};
+use pdw_catalog::{Appliance, Column, Placing, Table};
 use sqlite_items::Items;
 use std::alloc::Global;
 use std::process::Abort;
 use std::test::Fail;
-
-fn text(alloc: Global, text: &str) -> Result<Str, NoMemory>
-    ensures { IfOk result (λ held. held ≡ text.now) }
-{
-    Ok(Str::from_bytes(alloc, text.as_bytes())?.unwrap())
-}
 
 fn sample(alloc: Global, name: Str, placing: Placing) -> Result<Table, NoMemory>
     ensures { IfOk result (λ table. table ≡ sample_table name placing) }
 {
     let mut columns = Vec::new(alloc);
     columns.push(Column {
-        name: text(alloc, "a")?,
+        name: Str::from_text(alloc, "a")?,
         kind: Kind::Int,
         nullable: true,
     })?;
     columns.push(Column {
-        name: text(alloc, "b")?,
+        name: Str::from_text(alloc, "b")?,
         kind: Kind::Text,
         nullable: true,
     })?;
@@ -53,8 +47,20 @@ fn two_rows(alloc: Global) -> Result<Vec<Row>, NoMemory>
     ensures fit { IfOk result (λ rows. AllByRecursion (FitsTable sample_columns) rows.items) }
 {
     let mut rows = Vec::new(alloc);
-    rows.push(row(alloc, Value::Int(4), text(alloc, "x")?)?)?;
-    rows.push(row(alloc, Value::Null, text(alloc, "y")?)?)?;
+    rows.push(row(alloc, Value::Int(4), Str::from_text(alloc, "x")?)?)?;
+    rows.push(row(alloc, Value::Null, Str::from_text(alloc, "y")?)?)?;
+    Ok(rows)
+}
+
+// So many rows (4, 'x').
+fn equal_rows(alloc: Global, count: usize) -> Result<Vec<Row>, NoMemory>
+    ensures count { IfOk result (λ rows. vec_len rows ≡ count) }
+    ensures fit { IfOk result (λ rows. AllByRecursion (FitsTable sample_columns) rows.items) }
+{
+    let mut rows = Vec::new(alloc);
+    for _row in 0..count {
+        rows.push(row(alloc, Value::Int(4), Str::from_text(alloc, "x")?)?)?;
+    }
     Ok(rows)
 }
 
@@ -76,7 +82,7 @@ fn with_table(alloc: Global, placing: Placing) -> Result<Appliance, NoMemory>
     ensures { IfOk result (λ appliance. appliance ≡ creating (empty_of 3) (sample_table (116 ∷ []) placing)) }
 {
     let mut appliance = Appliance::new(alloc, NodeCount::new(3).unwrap())?;
-    let table = sample(alloc, text(alloc, "t")?, placing)?;
+    let table = sample(alloc, Str::from_text(alloc, "t")?, placing)?;
     appliance.create_table(alloc, table)?;
     Ok(appliance)
 }
@@ -91,7 +97,7 @@ fn check_placing(
     requires { IsPlaced placing 2 }
 {
     let mut appliance = with_table(alloc, placing)?;
-    let name = text(alloc, "t")?;
+    let name = Str::from_text(alloc, "t")?;
     let rows = two_rows(alloc)?;
     appliance.append_rows(alloc, &name, rows)?;
     for node in 0..3 {
@@ -131,9 +137,9 @@ fn rows_stand_where_the_placing_says(rt: HostRuntime) -> Result<(), Fail> {
 fn dropping_leaves_the_other_table(rt: HostRuntime) -> Result<(), Fail> {
     let alloc = rt.alloc();
     let mut appliance = with_table(alloc, Placing::Hash(0))?;
-    let first = text(alloc, "t")?;
-    let second = text(alloc, "u")?;
-    let table = sample(alloc, text(alloc, "u")?, Placing::Replicate)?;
+    let first = Str::from_text(alloc, "t")?;
+    let second = Str::from_text(alloc, "u")?;
+    let table = sample(alloc, Str::from_text(alloc, "u")?, Placing::Replicate)?;
     appliance.create_table(alloc, table)?;
     let rows = two_rows(alloc)?;
     appliance.append_rows(alloc, &second, rows)?;
@@ -149,5 +155,22 @@ fn dropping_leaves_the_other_table(rt: HostRuntime) -> Result<(), Fail> {
     assert_eq!(rt; copy.placing.most_rows(), 100_000);
     let found = numbers(alloc, appliance.rows_at(&second, 1))?;
     assert_eq!(rt; found.as_slice(), [Some(4), None].as_slice());
+    Ok(())
+}
+
+#[test]
+fn a_replicated_table_has_at_most_100000_rows(rt: HostRuntime) -> Result<(), Fail> {
+    let alloc = rt.alloc();
+    let most = Placing::Replicate.most_rows();
+    for (count, fits) in [(100_000, true), (100_001, false)] {
+        let mut appliance = with_table(alloc, Placing::Replicate)?;
+        let name = Str::from_text(alloc, "t")?;
+        let rows = equal_rows(alloc, count)?;
+        assert_eq!(rt; rows.len() <= most, fits, "{count}");
+        if rows.len() <= most {
+            appliance.append_rows(alloc, &name, rows)?;
+            assert_eq!(rt; appliance.row_count(&name), count);
+        }
+    }
     Ok(())
 }

@@ -1,0 +1,5 @@
+//! Tests of what scripts read as.
+#![tactic(auto)]
+
+#[cfg(test)]
+mod tokens;
