@@ -11,7 +11,7 @@ use Rattle.pdw_base.specs.declared.schema.ColId.{ColId}
 use Rattle.pdw_base.specs.declared.value.Value.{Value}
 use Rattle.pdw_base.specs.declared.value.Value.TheVariants.{Null}
 use Rattle.pdw_expr.specs.Env.{union}
-use Rattle.pdw_expr.specs.Parts.{each_once, row_cmp, same_row}
+use Rattle.pdw_expr.specs.Parts.{each_once, groups, row_cmp, same_row}
 use Rattle.pdw_expr.specs.Rows.{aggregate_cells, argument, first_row, group_row, grouped, key_cells, key_of}
 use Rattle.pdw_expr.specs.declared.agg.Agg.{Agg}
 use Rattle.std.specs.Ordering.{eq_by_cmp}
@@ -31,6 +31,15 @@ first-key key (row ∷ rows) k there = by (same_row (key row) k) refl there (fir
         → key (first_row (cond is (row ∷ part_of key rows k) (part_of key rows k))) ≡ k
     by true is _ _ = same_row-≡ (key row) k is
     by false is there rest = rest (ap (λ same. same || occurs k (map key rows)) (sym (same_row-sym k (key row) ∙ is)) ∙ there)
+
+-- a key that does not occur has no rows
+pub none-of_key : {X : Type 0} (key : X → List Value) (rows : List X) (k : List Value) → occurs k (map key rows) ≡ false → part_of key rows k ≡ []
+none-of_key key [] k none = refl
+none-of_key key (row ∷ rows) k none = by (same_row (key row) k) (occurs k (map key rows)) refl (ap (λ is. is || occurs k (map key rows)) (same_row-sym (key row) k) ∙ none) (none-of_key key rows k)
+  where
+    by : (is later : Bool) → same_row (key row) k ≡ is → (is || later) ≡ false → (later ≡ false → part_of key rows k ≡ []) → cond is (row ∷ part_of key rows k) (part_of key rows k) ≡ []
+    by true later is none rest = absurd (true≢false none)
+    by false later is none rest = rest none
 
 pub column-≡ : (a b : ColId) → (a.0 == b.0) ≡ true → a ≡ b
 column-≡ a b same = ap (λ n. record { 0 = n }) (eqb-true a.0 b.0 same)
@@ -69,15 +78,20 @@ group_row-same : (keys : List ColId) (aggs : List Agg) (xs ys : List Env) → ke
 group_row-same keys aggs xs ys key same =
     ap₂ union (key_cells-same keys (first_row xs) (first_row ys) key) (λ i c. aggregate_cells-same aggs xs ys same c i)
 
-pub SameBag-grouped : (keys : List ColId) (aggs : List Agg) (xs ys : List Env) → SameBag xs ys → grouped keys aggs xs ≡ grouped keys aggs ys
-SameBag-grouped [] aggs xs ys same = ap (λ row. row ∷ []) (group_row-same [] aggs xs ys refl same)
-SameBag-grouped (first ∷ rest) aggs xs ys same =
-    let keys = first ∷ rest in
-    let key = key_of keys in
-    parts-alike key key (group_row keys aggs) (group_row keys aggs) xs ys (SameBag-occurs key same) (λ k there.
-    group_row-same keys aggs (part_of key xs k) (part_of key ys k)
+-- what is made of the groups of equal bags is one list, where it is the same for equal bags of one key
+pub SameBag-groups : {O : Type 0} (keys : List ColId) (make : List Env → O)
+    → ((xs ys : List Env) → key_of keys (first_row xs) ≡ key_of keys (first_row ys) → SameBag xs ys → make xs ≡ make ys)
+    → (xs ys : List Env) → SameBag xs ys → map make (groups keys (key_of keys) xs) ≡ map make (groups keys (key_of keys) ys)
+SameBag-groups [] make each xs ys same = ap (λ made. made ∷ []) (each xs ys refl same)
+SameBag-groups (first ∷ rest) make each xs ys same =
+    let key = key_of (first ∷ rest) in
+    parts-alike key key make make xs ys (SameBag-occurs key same) (λ k there.
+    each (part_of key xs k) (part_of key ys k)
     (first-key key xs k there ∙ sym (first-key key ys k (sym (SameBag-occurs key same k) ∙ there)))
     (SameBag-filter (λ row. same_row (key row) k) same))
+
+pub SameBag-grouped : (keys : List ColId) (aggs : List Agg) (xs ys : List Env) → SameBag xs ys → grouped keys aggs xs ≡ grouped keys aggs ys
+SameBag-grouped keys aggs = SameBag-groups keys (group_row keys aggs) (group_row-same keys aggs)
 
 pub SameBag-each_once : (rows others : List (List Value)) → SameBag rows others → each_once rows ≡ each_once others
 SameBag-each_once rows others same = each_once-same rows others (λ row. SameBag-list_any (eq_by_cmp row_cmp row) same)

@@ -105,7 +105,7 @@ none_above row (entry ∷ entries) below =
     let rest = filter (λ other. same_row other row) (firsts entries) in
     ap (λ is. cond is (entry.0 ∷ rest) rest) (before_differs row entry.0 both.0) ∙ none_above row entries both.1
 
-abbrev one_or_none : Bool → List Value → List (List Value)
+abbrev pub one_or_none : Bool → List Value → List (List Value)
 one_or_none there row = cond there (row ∷ []) []
 
 one_of_sorted : (row : List Value) (entries : List Entry) → T (is_sorted row_cmp entries) → filter (λ other. same_row other row) (firsts entries) ≡ one_or_none (occurs row (firsts entries)) row
