@@ -13,12 +13,12 @@ use Rattle.pdw_bag_laws.proofs.Picks.{greater-choice, greatest-append, least-app
 use Rattle.pdw_base.proofs.ComparisonLemmas.{value_cmp-total, value_cmp-Equal}
 use Rattle.pdw_base.specs.Comparison.{number, value_cmp}
 use Rattle.pdw_base.specs.SameBag.{SameBag}
-use Rattle.pdw_base.specs.declared.value.Value.{Value}
 use Rattle.pdw_base.specs.declared.value.Value.TheVariants.{Wide}
+use Rattle.pdw_base.specs.declared.value.Value.{Value}
 use Rattle.pdw_expr.specs.Aggregate.{aggregated, counted, final_value, greater, greatest, least, lesser, partial_value, present, summed, total, wide}
 use Rattle.pdw_expr.specs.Comparison.{is_null}
-use Rattle.pdw_expr.specs.declared.agg.AggKind.{AggKind}
 use Rattle.pdw_expr.specs.declared.agg.AggKind.TheVariants.{CountStar, Count, Sum, Min, Max}
+use Rattle.pdw_expr.specs.declared.agg.AggKind.{AggKind}
 
 -- what is made of values part by part: of two parts by joining what is made of each
 pub record IsMerged (of : List Value → Value) (join : Value → Value → Value) : Type 0 where

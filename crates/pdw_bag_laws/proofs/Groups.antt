@@ -1,6 +1,7 @@
 -- Groups of equal bags are one list, and so are their rows each once.
 use Rattle.std.proofs.Common.{◌≡◌, ◌==◌, Bool, true, false, cond, ◌||◌, List, [], ◌∷◌, map, refl, sym, ap, ap₂, ◌∙◌, if◌then◌else◌, subst, eqb-true, true≢false}
 use Rattle.std.specs.List.{list_any}
+use Rattle.std.specs.Ordering.{eq_by_cmp}
 use Rattle.pdw_bag_laws.proofs.Aggregates.{SameBag-aggregated}
 use Rattle.pdw_bag_laws.proofs.Keys.{each_once-same, occurs, part_of, parts-alike, same_row-sym, same_row-≡}
 use Rattle.pdw_bag_laws.proofs.Occurrence.{SameBag-list_any}
@@ -8,13 +9,12 @@ use Rattle.pdw_base.proofs.SameBagLaws.{SameBag-filter, SameBag-map}
 use Rattle.pdw_base.specs.SameBag.{SameBag}
 use Rattle.pdw_base.specs.Schema.{Env}
 use Rattle.pdw_base.specs.declared.schema.ColId.{ColId}
-use Rattle.pdw_base.specs.declared.value.Value.{Value}
 use Rattle.pdw_base.specs.declared.value.Value.TheVariants.{Null}
+use Rattle.pdw_base.specs.declared.value.Value.{Value}
 use Rattle.pdw_expr.specs.Env.{union}
-use Rattle.pdw_expr.specs.Parts.{each_once, groups, row_cmp, same_row}
+use Rattle.pdw_expr.specs.Parts.{each_once, groups, parts, row_cmp, same_row}
 use Rattle.pdw_expr.specs.Rows.{aggregate_cells, argument, first_row, group_row, grouped, key_cells, key_of}
 use Rattle.pdw_expr.specs.declared.agg.Agg.{Agg}
-use Rattle.std.specs.Ordering.{eq_by_cmp}
 
 -- ---- rows of a key
 
@@ -78,20 +78,29 @@ group_row-same : (keys : List ColId) (aggs : List Agg) (xs ys : List Env) → ke
 group_row-same keys aggs xs ys key same =
     ap₂ union (key_cells-same keys (first_row xs) (first_row ys) key) (λ i c. aggregate_cells-same aggs xs ys same c i)
 
--- what is made of the groups of equal bags is one list, where it is the same for equal bags of one key
-pub SameBag-groups : {O : Type 0} (keys : List ColId) (make : List Env → O)
-    → ((xs ys : List Env) → key_of keys (first_row xs) ≡ key_of keys (first_row ys) → SameBag xs ys → make xs ≡ make ys)
-    → (xs ys : List Env) → SameBag xs ys → map make (groups keys (key_of keys) xs) ≡ map make (groups keys (key_of keys) ys)
-SameBag-groups [] make each xs ys same = ap (λ made. made ∷ []) (each xs ys refl same)
-SameBag-groups (first ∷ rest) make each xs ys same =
-    let key = key_of (first ∷ rest) in
+-- what is made of the parts of equal bags is one list, where it is the same for equal bags of one key
+pub SameBag-parts : {O : Type 0} (key : Env → List Value) (make : List Env → O)
+    → ((xs ys : List Env) → key (first_row xs) ≡ key (first_row ys) → SameBag xs ys → make xs ≡ make ys)
+    → (xs ys : List Env) → SameBag xs ys → map make (parts key xs) ≡ map make (parts key ys)
+SameBag-parts key make each xs ys same =
     parts-alike key key make make xs ys (SameBag-occurs key same) (λ k there.
     each (part_of key xs k) (part_of key ys k)
     (first-key key xs k there ∙ sym (first-key key ys k (sym (SameBag-occurs key same k) ∙ there)))
     (SameBag-filter (λ row. same_row (key row) k) same))
 
+-- and of their groups, with keys and without
+pub SameBag-groups : {O : Type 0} (keys : List ColId) (make : List Env → O)
+    → ((xs ys : List Env) → key_of keys (first_row xs) ≡ key_of keys (first_row ys) → SameBag xs ys → make xs ≡ make ys)
+    → (xs ys : List Env) → SameBag xs ys → map make (groups keys (key_of keys) xs) ≡ map make (groups keys (key_of keys) ys)
+SameBag-groups [] make each xs ys same = ap (λ made. made ∷ []) (each xs ys refl same)
+SameBag-groups (first ∷ rest) make each xs ys same = SameBag-parts (key_of (first ∷ rest)) make each xs ys same
+
 pub SameBag-grouped : (keys : List ColId) (aggs : List Agg) (xs ys : List Env) → SameBag xs ys → grouped keys aggs xs ≡ grouped keys aggs ys
 SameBag-grouped keys aggs = SameBag-groups keys (group_row keys aggs) (group_row-same keys aggs)
+
+-- rows of the same values in some columns, once
+pub SameBag-distinct : (outs : List ColId) (xs ys : List Env) → SameBag xs ys → map (group_row outs []) (parts (key_of outs) xs) ≡ map (group_row outs []) (parts (key_of outs) ys)
+SameBag-distinct outs = SameBag-parts (key_of outs) (group_row outs []) (group_row-same outs [])
 
 pub SameBag-each_once : (rows others : List (List Value)) → SameBag rows others → each_once rows ≡ each_once others
 SameBag-each_once rows others same = each_once-same rows others (λ row. SameBag-list_any (eq_by_cmp row_cmp row) same)

@@ -3,12 +3,12 @@ use Rattle.std.proofs.Common.{◌≡◌, Bool, true, false, cond, List, [], ◌�
 use Rattle.std.proofs.lemmas.List.Sums.{fold-append}
 use Rattle.std.specs.List.{AllByRecursion}
 use Rattle.std.specs.Ordering.{is_gt, is_lt, ordering_reverse}
-use Rattle.std.specs.declared.cmp.Ordering.{Ordering}
 use Rattle.std.specs.declared.cmp.Ordering.TheVariants.{Less, Equal, Greater}
+use Rattle.std.specs.declared.cmp.Ordering.{Ordering}
 use Rattle.pdw_base.proofs.ComparisonLemmas.{value_cmp-total, value_cmp-Equal}
 use Rattle.pdw_base.specs.Comparison.{value_cmp}
-use Rattle.pdw_base.specs.declared.value.Value.{Value}
 use Rattle.pdw_base.specs.declared.value.Value.TheVariants.{Null, Int, Text, Wide}
+use Rattle.pdw_base.specs.declared.value.Value.{Value}
 use Rattle.pdw_expr.specs.Aggregate.{greater, greatest, least, lesser, present}
 use Rattle.pdw_expr.specs.Comparison.{is_null}
 

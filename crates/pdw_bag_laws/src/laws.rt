@@ -1,14 +1,14 @@
 //! The laws, each the contract of a function.
 
 ghost use Rattle.std.specs.List.{AllByRecursion};
-ghost use Rattle.std.specs.Prelude.{◌≡◌, List, Option, map};
+ghost use Rattle.std.specs.Prelude.{◌≡◌, List, [], Option, map};
 ghost use Rattle.pdw_base.specs.SameBag.{SameBag};
 ghost use Rattle.pdw_base.specs.Schema.{Env};
 ghost use Rattle.pdw_base.specs.declared.schema.ColId.{ColId as Column};
 ghost use Rattle.pdw_base.specs.declared.value.Value.{Value as SqlValue};
 ghost use Rattle.pdw_expr.specs.Aggregate.{aggregated, partial_value};
-ghost use Rattle.pdw_expr.specs.Parts.{each_once};
-ghost use Rattle.pdw_expr.specs.Rows.{filtered, grouped, joined, products, projected};
+ghost use Rattle.pdw_expr.specs.Parts.{each_once, parts};
+ghost use Rattle.pdw_expr.specs.Rows.{filtered, group_row, grouped, joined, key_of, products, projected};
 ghost use Rattle.pdw_expr.specs.declared.agg.Agg.{Agg as Aggregate};
 ghost use Rattle.pdw_expr.specs.declared.agg.AggKind.{AggKind as KindOfAggregate};
 ghost use Rattle.pdw_expr.specs.declared.agg.JoinKind.{JoinKind as KindOfJoin};
@@ -25,9 +25,10 @@ pub fn operators_keep_bags_equal()
 {}
 
 /// Groups of equal bags are the same list, since they stand by rising keys and their aggregates do not see the order of
-/// rows; so are the rows of equal bags, each once.
+/// rows; so are the rows that DISTINCT keeps, by the values of some columns, and the rows of equal bags, each once.
 pub fn groups_of_equal_bags_are_one_list()
     ensures grouped { (keys : List Column) (aggs : List Aggregate) (rows others : List Env) → SameBag rows others → grouped keys aggs rows ≡ grouped keys aggs others }
+    ensures distinct { (outs : List Column) (rows others : List Env) → SameBag rows others → map (group_row outs []) (parts (key_of outs) rows) ≡ map (group_row outs []) (parts (key_of outs) others) }
     ensures once { (rows others : List (List SqlValue)) → SameBag rows others → each_once rows ≡ each_once others }
 {}
 

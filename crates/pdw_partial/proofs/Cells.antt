@@ -2,13 +2,13 @@
 use Rattle.std.proofs.Common.{◌≡◌, ◌==◌, Bool, true, false, ◌||◌, Option, List, [], ◌∷◌, ◌++◌, map, refl, sym, ap, ap₂, ◌∙◌, if◌then◌else◌, eq-eqb, true≢false}
 use Rattle.std.proofs.lemmas.List.{map-append}
 use Rattle.std.specs.List.{list_any}
+use Rattle.pdw_bag_laws.proofs.Aggregates.{SameBag-partial_value}
 use Rattle.pdw_bag_laws.proofs.Groups.{column-≡, key_cells-same}
 use Rattle.pdw_base.proofs.SameBagLaws.{SameBag-map}
 use Rattle.pdw_base.specs.SameBag.{SameBag}
 use Rattle.pdw_base.specs.Schema.{Env}
 use Rattle.pdw_base.specs.declared.schema.ColId.{ColId}
 use Rattle.pdw_base.specs.declared.value.Value.TheVariants.{Null}
-use Rattle.pdw_bag_laws.proofs.Aggregates.{SameBag-partial_value}
 use Rattle.pdw_expr.proofs.EnvLaws.{union-nulls}
 use Rattle.pdw_expr.specs.Aggregate.{final_value, partial_value}
 use Rattle.pdw_expr.specs.Env.{or_else, union}

@@ -5,11 +5,11 @@ use Rattle.std.proofs.lemmas.Int.{SFits-int_wrap, int_wrap_fits}
 use Rattle.std.specs.Int.{int_wrap, w128}
 use Rattle.pdw_bag_laws.proofs.Aggregates.{join-commutes, join_of, merged-same, partial_value-append, plus, total-append, wide-plus}
 use Rattle.pdw_base.specs.SameBag.{SameBag}
-use Rattle.pdw_base.specs.declared.value.Value.{Value}
 use Rattle.pdw_base.specs.declared.value.Value.TheVariants.{Null, Int, Text, Wide}
+use Rattle.pdw_base.specs.declared.value.Value.{Value}
 use Rattle.pdw_expr.specs.Aggregate.{greatest, least, partial_value, present, summed, total, wide}
-use Rattle.pdw_expr.specs.declared.agg.AggKind.{AggKind}
 use Rattle.pdw_expr.specs.declared.agg.AggKind.TheVariants.{CountStar, Count, Sum, Min, Max}
+use Rattle.pdw_expr.specs.declared.agg.AggKind.{AggKind}
 use Rattle.pdw_partial.specs.Partial.{merged}
 
 added-append : (xs ys : List Value) → wide (total (xs ++ ys)) ≡ plus (wide (total xs)) (wide (total ys))

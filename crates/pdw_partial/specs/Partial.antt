@@ -1,19 +1,19 @@
 -- Partial aggregates. The rows of a grouping may stand at several places; each place makes partial rows of its own, and of
 -- all partial rows together the groups are finished.
-use Rattle.std.specs.Prelude.{◌≡◌, ◌≢◌, ◌==◌, false, List, ◌∷◌, [], map, if◌then◌else◌}
 use Rattle.std.specs.List.{AllByRecursion, flat_map, list_any}
+use Rattle.std.specs.Prelude.{◌≡◌, ◌≢◌, ◌==◌, false, List, ◌∷◌, [], map, if◌then◌else◌}
 use Rattle.pdw_base.specs.SameBag.{SameBag}
 use Rattle.pdw_base.specs.Schema.{Env}
 use Rattle.pdw_base.specs.declared.schema.ColId.{ColId}
-use Rattle.pdw_base.specs.declared.value.Value.{Value}
 use Rattle.pdw_base.specs.declared.value.Value.TheVariants.{Null}
+use Rattle.pdw_base.specs.declared.value.Value.{Value}
 use Rattle.pdw_expr.specs.Aggregate.{final_value, greatest, least, partial_value, present, summed, total, wide}
 use Rattle.pdw_expr.specs.Env.{union}
 use Rattle.pdw_expr.specs.Parts.{groups}
 use Rattle.pdw_expr.specs.Rows.{argument, first_row, key_cells, key_of}
 use Rattle.pdw_expr.specs.declared.agg.Agg.{Agg}
-use Rattle.pdw_expr.specs.declared.agg.AggKind.{AggKind}
 use Rattle.pdw_expr.specs.declared.agg.AggKind.TheVariants.{CountStar, Count, Sum, Min, Max}
+use Rattle.pdw_expr.specs.declared.agg.AggKind.{AggKind}
 
 -- ---- partial rows
 

@@ -1,6 +1,6 @@
 use Rattle.pdw_bag_laws.proofs.Operators.{SameBag-joined, SameBag-products}
-use Rattle.pdw_base.proofs.SameBagLaws.{SameBag-filter, SameBag-map}
 use Rattle.pdw_bag_laws.proofs.laws.operators_keep_bags_equal.Goals as goal
+use Rattle.pdw_base.proofs.SameBagLaws.{SameBag-filter, SameBag-map}
 use Rattle.pdw_expr.specs.Rows.{meets, projected}
 
 pub returns-clause-filtered : goal.returns-clause-filtered
