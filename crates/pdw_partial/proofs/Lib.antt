@@ -6,3 +6,5 @@ pub mod Cells
 pub mod Groups
 -- which partial rows are admitted
 pub mod Admitted
+-- small rows worked out by hand
+pub mod Rows
