@@ -1,5 +1,6 @@
 #!/usr/bin/env bash
-# Runs the built program once for each way in which a run ends, and compares its exit status and its output.
+# Runs the built program on each example and once for each way in which a run ends, and compares its exit status and its output.
+# It also looks whether ./pdw explains the statuses from 2 on the standard error, in one line, and says nothing there otherwise.
 set -u
 top=$(cd "$(dirname "$0")/.." && pwd)
 folder=$(mktemp -d)
@@ -22,19 +23,26 @@ printf 'SELECT a FROM' >cut_off.sql
 } >not_built.sql
 sed 's/t.csv/none.csv/' s.sql >no_file.sql
 
+# The lines that ./pdw writes of an exit status.
+lines_of() {
+    if [ "$1" -ge 2 ]; then echo 1; else echo 0; fi
+}
+
 # A name, the wanted status, the wanted output, and then the words.
 expect() {
     local name=$1 status=$2 output=$3
     shift 3
     local found
-    found=$("$@" 2>/dev/null)
+    found=$("$@" 2>complaint)
     local ended=$?
-    if [ "$ended" -eq "$status" ] && [ "$found" = "$output" ]; then
+    if [ "$ended" -eq "$status" ] && [ "$found" = "$output" ] && [ "$(wc -l <complaint)" -eq "$(lines_of "$status")" ]; then
         passed=$((passed + 1))
     else
         failed=$((failed + 1))
         echo "$name: status $ended, wanted $status; output:"
         echo "$found"
+        echo "on the standard error:"
+        cat complaint
     fi
 }
 
@@ -69,13 +77,17 @@ DROP TABLE e;
 SELECT k FROM e;
 SCRIPT
 
-"$top/pdw" run >/dev/null 2>&1 # builds it, where that is still to be done
-expect done 0 "$(printf 'OK\nLOADED 2\na,b\nNULL,"y"\n4,"x"\nROWS 2')" "$top/pdw" run 3 s.sql
+# Builds it, where that is still to be done.
+"$top/pdw" run 1 empty.sql || exit 1
+
+for example in "$top"/examples/*/; do
+    expect "the example $(basename "$example")" 0 "$(cat "$example/expected")" in_folder "$example" "$top/pdw" run 4 s.sql
+done
+expect 'a whole run' 0 "$(printf 'OK\nLOADED 2\na,b\nNULL,"y"\n4,"x"\nROWS 2')" "$top/pdw" run 3 s.sql
 expect 'one node' 0 "$(printf 'OK\nLOADED 2\na,b\n4,"x"\nNULL,"y"\nROWS 2')" "$top/pdw" run 1 s.sql
 expect 'an empty script' 0 '' "$top/pdw" run 3 empty.sql
 expect refused 1 'REFUSED E6 SYNTAX AT 13' "$top/pdw" run 3 cut_off.sql
 expect 'not built' 1 "$(printf 'OK\nLOADED 2\na,b\n4,"x"\nNULL,"y"\nROWS 2\nREFUSED E19 STATEMENT 4 NOTBUILT')" "$top/pdw" run 1 not_built.sql
-expect 'joins, groups and subqueries' 0 "$(printf 'OK\nOK\nOK\nOK\nOK\nLOADED 7\nLOADED 3\nLOADED 3\nLOADED 3\nLOADED 3\nregion,month,total,n\n"north",1,15,3\n"south",1,4,1\nROWS 2\nkind\n"tea"\nROWS 1')" in_folder "$top/examples/star" "$top/pdw" run 4 s.sql
 expect 'a later file with a field too many' 1 "$(printf 'OK\nLOADED 3\na,b\n1,"x,y"\n2,""\n3,NULL\nROWS 3\nREFUSED E17 STATEMENT 4 FIELDCOUNT 3')" "$top/pdw" run 4 field_count.sql
 expect 'a dropped table' 1 "$(printf 'OK\nOK\nREFUSED E9 STATEMENT 3 UNKNOWNTABLE e')" "$top/pdw" run 4 dropped.sql
 expect 'no words' 2 '' "$top/pdw"
