@@ -3,17 +3,17 @@ use Rattle.std.proofs.Common.{◌≡◌, ℕ, zero, suc, ◌-◌, ◌<◌, Bool,
 use Rattle.pdw_lex.specs.declared.sign.Sign.TheVariants.{ParenOpen, ParenClose}
 use Rattle.pdw_lex.specs.declared.token.Lexeme.{Lexeme}
 use Rattle.pdw_syntax.specs.Lexemes.{is_sign}
-use Rattle.pdw_parse.specs.declared.content.Content.{Content}
-use Rattle.pdw_parse.specs.declared.content.Content.TheVariants as content
-use Rattle.pdw_parse.specs.declared.content.Wanted.{Wanted}
-use Rattle.pdw_parse.specs.declared.content.Wanted.TheVariants as wanted
-use Rattle.pdw_parse.specs.declared.parse_error.Stop.{Stop}
-use Rattle.pdw_parse.specs.declared.parse_error.Stop.TheVariants.{Syntax, TooDeep}
-use Rattle.pdw_parse.specs.Reading.{Outcome, read, stopped, Reader, and_then, ◌<$>◌, pure, next, meaning_of, sees, taken, take, closed, enclosed}
-use Rattle.pdw_parse.specs.ReadExprs.{expr, counted}
-use Rattle.pdw_parse.specs.ReadConds.{operand}
-use Rattle.pdw_parse.specs.ReadQueries.{query, among, source}
-use Rattle.pdw_parse.specs.Levels.{nested, content_by, inner_by}
+use Rattle.pdw_reading.specs.declared.content.Content.{Content}
+use Rattle.pdw_reading.specs.declared.content.Content.TheVariants as content
+use Rattle.pdw_reading.specs.declared.content.Wanted.{Wanted}
+use Rattle.pdw_reading.specs.declared.content.Wanted.TheVariants as wanted
+use Rattle.pdw_reading.specs.declared.parse_error.Stop.{Stop}
+use Rattle.pdw_reading.specs.declared.parse_error.Stop.TheVariants.{Syntax, TooDeep}
+use Rattle.pdw_reading.specs.Reading.{Outcome, read, stopped, Reader, and_then, ◌<$>◌, pure, next, meaning_of, sees, taken, take, closed, enclosed}
+use Rattle.pdw_reading.specs.ReadExprs.{expr, counted}
+use Rattle.pdw_reading.specs.ReadConds.{operand}
+use Rattle.pdw_reading.specs.ReadQueries.{query, among, source}
+use Rattle.pdw_reading.specs.Levels.{nested, content_by, inner_by}
 
 -- ---- the parenthesis that comes first
 

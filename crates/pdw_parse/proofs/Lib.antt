@@ -1,21 +1,4 @@
+-- a loop that reads texts one after the other
 pub mod Turns
-pub mod Law
-pub mod Closure
-pub mod Stops
-pub mod Level
-pub mod Rules
-pub mod Depths
-pub mod MoreClosure
-pub mod ExprLaws
-pub mod PredicateLaws
-pub mod CondLaws
-pub mod Leads
-pub mod Steps
-pub mod TableLaws
-pub mod ExprBegins
-pub mod QueryLaws
-pub mod StatementLaws
-pub mod LevelLaws
-pub mod PlaceLaws
+-- what a pair of parentheses reads, from what stands in it
 pub mod GroupReads
-pub mod FaultLemmas

@@ -1,8 +1,8 @@
 -- A loop that reads texts one after the other.
 use Rattle.std.proofs.Common.{◌≡◌, ℕ, suc, ◌+◌, ◌-◌, ◌<◌, ◌≤◌, List, [], ◌∷◌, ◌++◌, Option, Some, None, ap, ◌∙◌, arith}
 use Rattle.pdw_lex.specs.declared.token.Lexeme.{Lexeme}
-use Rattle.pdw_parse.specs.Reading.{Outcome, read, stopped, many_from, and_then, turn}
-use Rattle.pdw_parse.specs.declared.parse_error.Stop.{Stop}
+use Rattle.pdw_reading.specs.Reading.{Outcome, read, stopped, many_from, and_then, turn}
+use Rattle.pdw_reading.specs.declared.parse_error.Stop.{Stop}
 
 -- what the loop is to give is what its turns that are left give
 pub record Left {A : Type 0} (step : List Lexeme → Outcome (Option A)) (whole : Outcome (List A)) (n at : ℕ) (found : List A) (ts : List Lexeme) : Type 0 where

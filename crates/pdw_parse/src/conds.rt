@@ -3,22 +3,22 @@
 ghost use Rattle.std.specs.Prelude.{◌≡◌, IfOk};
 ghost use Rattle.pdw_syntax.specs.Conds.{all_of as all_of_spec, any_of as any_of_spec, negated_by as negated_by_spec, tested as tested_spec};
 ghost use Rattle.pdw_syntax.specs.Lexemes as lexemes;
-ghost use Rattle.pdw_parse.specs.Levels.{Nests, nested};
-ghost use Rattle.pdw_parse.specs.ReadConds as spec;
-ghost use Rattle.pdw_parse.specs.Reading.{Reads, begun_by, many, next};
+ghost use Rattle.pdw_reading.specs.Levels.{Nests, nested};
+ghost use Rattle.pdw_reading.specs.ReadConds as spec;
+ghost use Rattle.pdw_reading.specs.Reading.{Reads, begun_by, many, next};
 
-use crate::content::{Among, Content, Operand, Wanted};
 use crate::grammar::Grammar;
 use crate::lexemes::{comparison_of, truth_of};
 use crate::lists::first_and_rest;
-use crate::parse_error::Stop;
 use crate::tokens::Tokens;
 use pdw_base::Truth;
 use pdw_expr::Cmp;
 use pdw_lex::{Keyword, Lexeme, Sign};
+use pdw_reading::{Among, Content, Operand, Stop, Wanted};
 use pdw_syntax::{SqlCond, SqlExpr};
 use sqlite_items::{Boxed, Items as ListOf};
 use std::alloc::{AllocError, Global};
+use std::mem::drop;
 
 // Conditions with AND between them, or the one that there is.
 fn all_of(alloc: Global, first: SqlCond, rest: ListOf<SqlCond>) -> Result<SqlCond, AllocError>
@@ -88,7 +88,7 @@ fn among_cond(
 }
 
 // Whether a value expression goes on to a predicate here.
-#[tactic(auto, unfolding(crate::specs::ReadConds::goes_on))]
+#[tactic(auto, unfolding(pdw_reading::specs::ReadConds::goes_on))]
 fn goes_on(tokens: &Tokens<'_>) -> bool
     ensures { result ≡ spec.goes_on tokens.now }
 {
@@ -101,7 +101,7 @@ fn goes_on(tokens: &Tokens<'_>) -> bool
 }
 
 // What follows IS: whether NOT is written, and the truth.
-#[tactic(auto, unfolding(crate::specs::ReadConds::truth_test, crate::specs::Reading::take))]
+#[tactic(auto, unfolding(pdw_reading::specs::ReadConds::truth_test, pdw_reading::specs::Reading::take))]
 fn truth_test(tokens: &mut Tokens<'_>) -> Result<(bool, Truth), Stop>
     ensures { Reads (spec.truth_test tokens.old) result tokens.new }
 {
@@ -111,7 +111,7 @@ fn truth_test(tokens: &mut Tokens<'_>) -> Result<(bool, Truth), Stop>
 }
 
 // The test of a truth, if IS comes next.
-#[tactic(auto, unfolding(crate::specs::Reading::eat))]
+#[tactic(auto, unfolding(pdw_reading::specs::Reading::eat))]
 fn truth_test_if(tokens: &mut Tokens<'_>) -> Result<Option<(bool, Truth)>, Stop>
     ensures { Reads (begun_by (lexemes.is_key Keyword.KwIs) (λ _. spec.truth_test) tokens.old) result tokens.new }
 {
@@ -123,27 +123,84 @@ fn truth_test_if(tokens: &mut Tokens<'_>) -> Result<Option<(bool, Truth)>, Stop>
 }
 
 // A test that begins with this condition.
-#[tactic(auto, unfolding(crate::specs::ReadConds::test_from))]
+#[tactic(auto, unfolding(pdw_reading::specs::ReadConds::test_from))]
 fn test_from(alloc: Global, tokens: &mut Tokens<'_>, cond: SqlCond) -> Result<SqlCond, Stop>
     ensures { Reads (spec.test_from cond tokens.old) result tokens.new }
 {
-    let test = truth_test_if(tokens)?;
-    Ok(tested(alloc, cond, test)?)
+    match truth_test_if(tokens) {
+        Ok(test) => Ok(tested(alloc, cond, test)?),
+        Err(stop) => {
+            drop(cond);
+            Err(stop)
+        }
+    }
 }
 
 impl<F: Fn(Global, &mut Tokens<'_>, usize, Wanted) -> Result<Content, Stop>> Grammar<F> {
     // What follows `value IS`.
-    #[tactic(auto, unfolding(crate::specs::ReadConds::null_test_from))]
+    #[tactic(auto, unfolding(pdw_reading::specs::ReadConds::null_test_from))]
     fn null_test_from(&self, tokens: &mut Tokens<'_>, value: SqlExpr) -> Result<SqlCond, Stop>
         ensures { Reads (spec.null_test_from (nested self.now.depth) value tokens.old) result tokens.new }
     {
         let negated = tokens.eat_key(Keyword::KwNot);
-        tokens.take_key(Keyword::KwNull)?;
-        Ok(SqlCond::IsNull { negated, value })
+        match tokens.take_key(Keyword::KwNull) {
+            Ok(()) => Ok(SqlCond::IsNull { negated, value }),
+            Err(stop) => {
+                drop(value);
+                Err(stop)
+            }
+        }
+    }
+
+    // BETWEEN from its upper bound on.
+    fn between_high(
+        &self,
+        tokens: &mut Tokens<'_>,
+        negated: bool,
+        value: SqlExpr,
+        low: SqlExpr,
+    ) -> Result<SqlCond, Stop>
+        requires { Nests self.now.depth (F.pre self.now.group) (F.post self.now.group) }
+        ensures { Reads (spec.between_high (nested self.now.depth) negated value low tokens.old) result tokens.new }
+    {
+        match self.expr(tokens) {
+            Ok(high) => Ok(SqlCond::Between {
+                negated,
+                value,
+                low,
+                high,
+            }),
+            Err(stop) => {
+                drop(value);
+                drop(low);
+                Err(stop)
+            }
+        }
+    }
+
+    // BETWEEN from the word AND on.
+    fn between_low(
+        &self,
+        tokens: &mut Tokens<'_>,
+        negated: bool,
+        value: SqlExpr,
+        low: SqlExpr,
+    ) -> Result<SqlCond, Stop>
+        requires { Nests self.now.depth (F.pre self.now.group) (F.post self.now.group) }
+        ensures { Reads (spec.between_low (nested self.now.depth) negated value low tokens.old) result tokens.new }
+    {
+        match tokens.take_key(Keyword::KwAnd) {
+            Ok(()) => self.between_high(tokens, negated, value, low),
+            Err(stop) => {
+                drop(value);
+                drop(low);
+                Err(stop)
+            }
+        }
     }
 
     // What follows `value [ NOT ] BETWEEN`.
-    #[tactic(auto, unfolding(crate::specs::ReadConds::between_from))]
+    #[tactic(auto, unfolding(pdw_reading::specs::ReadConds::between_from))]
     fn between_from(
         &self,
         tokens: &mut Tokens<'_>,
@@ -153,15 +210,55 @@ impl<F: Fn(Global, &mut Tokens<'_>, usize, Wanted) -> Result<Content, Stop>> Gra
         requires { Nests self.now.depth (F.pre self.now.group) (F.post self.now.group) }
         ensures { Reads (spec.between_from (nested self.now.depth) negated value tokens.old) result tokens.new }
     {
-        let low = self.expr(tokens)?;
-        tokens.take_key(Keyword::KwAnd)?;
-        let high = self.expr(tokens)?;
-        Ok(SqlCond::Between {
-            negated,
-            value,
-            low,
-            high,
-        })
+        match self.expr(tokens) {
+            Ok(low) => self.between_low(tokens, negated, value, low),
+            Err(stop) => {
+                drop(value);
+                Err(stop)
+            }
+        }
+    }
+
+    // What follows `value [ NOT ] LIKE`.
+    fn like_from(
+        &self,
+        tokens: &mut Tokens<'_>,
+        negated: bool,
+        value: SqlExpr,
+    ) -> Result<SqlCond, Stop>
+        requires { Nests self.now.depth (F.pre self.now.group) (F.post self.now.group) }
+        ensures { Reads (spec.like_from (nested self.now.depth) negated value tokens.old) result tokens.new }
+    {
+        match self.expr(tokens) {
+            Ok(pattern) => Ok(SqlCond::Like {
+                negated,
+                value,
+                pattern,
+            }),
+            Err(stop) => {
+                drop(value);
+                Err(stop)
+            }
+        }
+    }
+
+    // What follows `value [ NOT ] IN`.
+    fn in_from(
+        &self,
+        tokens: &mut Tokens<'_>,
+        negated: bool,
+        value: SqlExpr,
+    ) -> Result<SqlCond, Stop>
+        requires { Nests self.now.depth (F.pre self.now.group) (F.post self.now.group) }
+        ensures { Reads (spec.in_from (nested self.now.depth) negated value tokens.old) result tokens.new }
+    {
+        match self.among_group(tokens) {
+            Ok(among) => Ok(among_cond(self.alloc, negated, value, among)?),
+            Err(stop) => {
+                drop(value);
+                Err(stop)
+            }
+        }
     }
 
     // LIKE, BETWEEN or IN, and what they are followed by.
@@ -177,12 +274,7 @@ impl<F: Fn(Global, &mut Tokens<'_>, usize, Wanted) -> Result<Content, Stop>> Gra
         match tokens.peek() {
             Some(Lexeme::Key(Keyword::KwLike)) => {
                 tokens.advance();
-                let pattern = self.expr(tokens)?;
-                Ok(SqlCond::Like {
-                    negated,
-                    value,
-                    pattern,
-                })
+                self.like_from(tokens, negated, value)
             }
             Some(Lexeme::Key(Keyword::KwBetween)) => {
                 tokens.advance();
@@ -190,15 +282,17 @@ impl<F: Fn(Global, &mut Tokens<'_>, usize, Wanted) -> Result<Content, Stop>> Gra
             }
             Some(Lexeme::Key(Keyword::KwIn)) => {
                 tokens.advance();
-                let among = self.among_group(tokens)?;
-                Ok(among_cond(self.alloc, negated, value, among)?)
+                self.in_from(tokens, negated, value)
             }
-            _ => Err(Stop::Syntax),
+            _ => {
+                drop(value);
+                Err(Stop::Syntax)
+            }
         }
     }
 
     // The same with NOT before it, if that is written.
-    #[tactic(auto, unfolding(crate::specs::ReadConds::negatable_from))]
+    #[tactic(auto, unfolding(pdw_reading::specs::ReadConds::negatable_from))]
     fn negatable_from(&self, tokens: &mut Tokens<'_>, value: SqlExpr) -> Result<SqlCond, Stop>
         requires { Nests self.now.depth (F.pre self.now.group) (F.post self.now.group) }
         ensures { Reads (spec.negatable_from (nested self.now.depth) value tokens.old) result tokens.new }
@@ -218,8 +312,13 @@ impl<F: Fn(Global, &mut Tokens<'_>, usize, Wanted) -> Result<Content, Stop>> Gra
         ensures { Reads (spec.predicate_by (nested self.now.depth) value operator tokens.old) result tokens.new }
     {
         if let Some(operator) = operator {
-            let other = self.expr(tokens)?;
-            return Ok(SqlCond::Compare(operator, value, other));
+            return match self.expr(tokens) {
+                Ok(other) => Ok(SqlCond::Compare(operator, value, other)),
+                Err(stop) => {
+                    drop(value);
+                    Err(stop)
+                }
+            };
         }
         if tokens.eat_key(Keyword::KwIs) {
             self.null_test_from(tokens, value)
@@ -229,7 +328,7 @@ impl<F: Fn(Global, &mut Tokens<'_>, usize, Wanted) -> Result<Content, Stop>> Gra
     }
 
     // A predicate that begins with this value.
-    #[tactic(auto, unfolding(crate::specs::ReadConds::predicate_from, crate::specs::Reading::take_if))]
+    #[tactic(auto, unfolding(pdw_reading::specs::ReadConds::predicate_from, pdw_reading::specs::Reading::take_if))]
     fn predicate_from(&self, tokens: &mut Tokens<'_>, value: SqlExpr) -> Result<SqlCond, Stop>
         requires { Nests self.now.depth (F.pre self.now.group) (F.post self.now.group) }
         ensures { Reads (spec.predicate_from (nested self.now.depth) value tokens.old) result tokens.new }
@@ -253,7 +352,7 @@ impl<F: Fn(Global, &mut Tokens<'_>, usize, Wanted) -> Result<Content, Stop>> Gra
     }
 
     /// A whole condition that begins one, or the expression that begins a predicate.
-    #[tactic(auto, unfolding(crate::specs::ReadConds::started))]
+    #[tactic(auto, unfolding(pdw_reading::specs::ReadConds::started))]
     fn started(&self, tokens: &mut Tokens<'_>) -> Result<Operand, Stop>
         requires { Nests self.now.depth (F.pre self.now.group) (F.post self.now.group) }
         ensures { Reads (spec.started (nested self.now.depth) tokens.old) result tokens.new }
@@ -272,7 +371,7 @@ impl<F: Fn(Global, &mut Tokens<'_>, usize, Wanted) -> Result<Content, Stop>> Gra
         }
     }
 
-    #[tactic(auto, unfolding(crate::specs::ReadConds::primary_condition))]
+    #[tactic(auto, unfolding(pdw_reading::specs::ReadConds::primary_condition))]
     fn primary_condition(&self, tokens: &mut Tokens<'_>) -> Result<SqlCond, Stop>
         requires { Nests self.now.depth (F.pre self.now.group) (F.post self.now.group) }
         ensures { Reads (spec.primary_condition (nested self.now.depth) tokens.old) result tokens.new }
@@ -283,7 +382,7 @@ impl<F: Fn(Global, &mut Tokens<'_>, usize, Wanted) -> Result<Content, Stop>> Gra
         }
     }
 
-    #[tactic(auto, unfolding(crate::specs::ReadConds::factor))]
+    #[tactic(auto, unfolding(pdw_reading::specs::ReadConds::factor))]
     fn factor(&self, tokens: &mut Tokens<'_>) -> Result<SqlCond, Stop>
         requires { Nests self.now.depth (F.pre self.now.group) (F.post self.now.group) }
         ensures { Reads (spec.factor (nested self.now.depth) tokens.old) result tokens.new }
@@ -295,7 +394,7 @@ impl<F: Fn(Global, &mut Tokens<'_>, usize, Wanted) -> Result<Content, Stop>> Gra
     }
 
     // The condition after AND, if that comes next.
-    #[tactic(auto, unfolding(crate::specs::Reading::eat))]
+    #[tactic(auto, unfolding(pdw_reading::specs::Reading::eat))]
     fn factor_after_and(&self, tokens: &mut Tokens<'_>) -> Result<Option<SqlCond>, Stop>
         requires { Nests self.now.depth (F.pre self.now.group) (F.post self.now.group) }
         ensures { Reads (begun_by (lexemes.is_key Keyword.KwAnd) (λ _. spec.factor (nested self.now.depth)) tokens.old) result tokens.new }
@@ -307,7 +406,7 @@ impl<F: Fn(Global, &mut Tokens<'_>, usize, Wanted) -> Result<Content, Stop>> Gra
         }
     }
 
-    #[tactic(auto, using(crate::proofs::Turns::turns), unfolding(crate::specs::Reading::many))]
+    #[tactic(auto, using(crate::proofs::Turns::turns), unfolding(pdw_reading::specs::Reading::many))]
     fn factors_after_and(&self, tokens: &mut Tokens<'_>) -> Result<ListOf<SqlCond>, Stop>
         requires { Nests self.now.depth (F.pre self.now.group) (F.post self.now.group) }
         ensures { Reads (many (begun_by (lexemes.is_key Keyword.KwAnd) (λ _. spec.factor (nested self.now.depth))) tokens.old) result tokens.new }
@@ -323,16 +422,21 @@ impl<F: Fn(Global, &mut Tokens<'_>, usize, Wanted) -> Result<Content, Stop>> Gra
     }
 
     // A term that begins with this factor.
-    #[tactic(auto, unfolding(crate::specs::ReadConds::term_from))]
+    #[tactic(auto, unfolding(pdw_reading::specs::ReadConds::term_from))]
     fn term_from(&self, tokens: &mut Tokens<'_>, first: SqlCond) -> Result<SqlCond, Stop>
         requires { Nests self.now.depth (F.pre self.now.group) (F.post self.now.group) }
         ensures { Reads (spec.term_from (nested self.now.depth) first tokens.old) result tokens.new }
     {
-        let rest = self.factors_after_and(tokens)?;
-        Ok(all_of(self.alloc, first, rest)?)
+        match self.factors_after_and(tokens) {
+            Ok(rest) => Ok(all_of(self.alloc, first, rest)?),
+            Err(stop) => {
+                drop(first);
+                Err(stop)
+            }
+        }
     }
 
-    #[tactic(auto, unfolding(crate::specs::ReadConds::term))]
+    #[tactic(auto, unfolding(pdw_reading::specs::ReadConds::term))]
     fn term(&self, tokens: &mut Tokens<'_>) -> Result<SqlCond, Stop>
         requires { Nests self.now.depth (F.pre self.now.group) (F.post self.now.group) }
         ensures { Reads (spec.term (nested self.now.depth) tokens.old) result tokens.new }
@@ -342,7 +446,7 @@ impl<F: Fn(Global, &mut Tokens<'_>, usize, Wanted) -> Result<Content, Stop>> Gra
     }
 
     // The condition after OR, if that comes next.
-    #[tactic(auto, unfolding(crate::specs::Reading::eat))]
+    #[tactic(auto, unfolding(pdw_reading::specs::Reading::eat))]
     fn term_after_or(&self, tokens: &mut Tokens<'_>) -> Result<Option<SqlCond>, Stop>
         requires { Nests self.now.depth (F.pre self.now.group) (F.post self.now.group) }
         ensures { Reads (begun_by (lexemes.is_key Keyword.KwOr) (λ _. spec.term (nested self.now.depth)) tokens.old) result tokens.new }
@@ -354,7 +458,7 @@ impl<F: Fn(Global, &mut Tokens<'_>, usize, Wanted) -> Result<Content, Stop>> Gra
         }
     }
 
-    #[tactic(auto, using(crate::proofs::Turns::turns), unfolding(crate::specs::Reading::many))]
+    #[tactic(auto, using(crate::proofs::Turns::turns), unfolding(pdw_reading::specs::Reading::many))]
     fn terms_after_or(&self, tokens: &mut Tokens<'_>) -> Result<ListOf<SqlCond>, Stop>
         requires { Nests self.now.depth (F.pre self.now.group) (F.post self.now.group) }
         ensures { Reads (many (begun_by (lexemes.is_key Keyword.KwOr) (λ _. spec.term (nested self.now.depth))) tokens.old) result tokens.new }
@@ -370,16 +474,21 @@ impl<F: Fn(Global, &mut Tokens<'_>, usize, Wanted) -> Result<Content, Stop>> Gra
     }
 
     // A condition that begins with this term.
-    #[tactic(auto, unfolding(crate::specs::ReadConds::cond_from))]
+    #[tactic(auto, unfolding(pdw_reading::specs::ReadConds::cond_from))]
     fn cond_from(&self, tokens: &mut Tokens<'_>, first: SqlCond) -> Result<SqlCond, Stop>
         requires { Nests self.now.depth (F.pre self.now.group) (F.post self.now.group) }
         ensures { Reads (spec.cond_from (nested self.now.depth) first tokens.old) result tokens.new }
     {
-        let rest = self.terms_after_or(tokens)?;
-        Ok(any_of(self.alloc, first, rest)?)
+        match self.terms_after_or(tokens) {
+            Ok(rest) => Ok(any_of(self.alloc, first, rest)?),
+            Err(stop) => {
+                drop(first);
+                Err(stop)
+            }
+        }
     }
 
-    #[tactic(auto, unfolding(crate::specs::ReadConds::cond))]
+    #[tactic(auto, unfolding(pdw_reading::specs::ReadConds::cond))]
     pub fn cond(&self, tokens: &mut Tokens<'_>) -> Result<SqlCond, Stop>
         requires { Nests self.now.depth (F.pre self.now.group) (F.post self.now.group) }
         ensures { Reads (spec.cond (nested self.now.depth) tokens.old) result tokens.new }
@@ -389,7 +498,7 @@ impl<F: Fn(Global, &mut Tokens<'_>, usize, Wanted) -> Result<Content, Stop>> Gra
     }
 
     // A condition that begins with this one, which no NOT stands before.
-    #[tactic(auto, unfolding(crate::specs::ReadConds::condition_from))]
+    #[tactic(auto, unfolding(pdw_reading::specs::ReadConds::condition_from))]
     fn condition_from(&self, tokens: &mut Tokens<'_>, first: SqlCond) -> Result<SqlCond, Stop>
         requires { Nests self.now.depth (F.pre self.now.group) (F.post self.now.group) }
         ensures { Reads (spec.condition_from (nested self.now.depth) first tokens.old) result tokens.new }
@@ -400,7 +509,7 @@ impl<F: Fn(Global, &mut Tokens<'_>, usize, Wanted) -> Result<Content, Stop>> Gra
     }
 
     // What a condition or an expression goes on to.
-    #[tactic(auto, unfolding(crate::specs::ReadConds::goes_on))]
+    #[tactic(auto, unfolding(pdw_reading::specs::ReadConds::goes_on))]
     fn operand_from(&self, tokens: &mut Tokens<'_>, first: Operand) -> Result<Operand, Stop>
         requires { Nests self.now.depth (F.pre self.now.group) (F.post self.now.group) }
         ensures { Reads (spec.operand_from (nested self.now.depth) first tokens.old) result tokens.new }
@@ -418,7 +527,7 @@ impl<F: Fn(Global, &mut Tokens<'_>, usize, Wanted) -> Result<Content, Stop>> Gra
     }
 
     /// A condition or an expression.
-    #[tactic(auto, unfolding(crate::specs::ReadConds::operand))]
+    #[tactic(auto, unfolding(pdw_reading::specs::ReadConds::operand))]
     pub fn operand(&self, tokens: &mut Tokens<'_>) -> Result<Operand, Stop>
         requires { Nests self.now.depth (F.pre self.now.group) (F.post self.now.group) }
         ensures { Reads (spec.operand (nested self.now.depth) tokens.old) result tokens.new }

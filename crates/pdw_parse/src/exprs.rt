@@ -3,22 +3,22 @@
 ghost use Rattle.std.specs.Prelude.{◌≡◌, [], ◌∷◌, IfOk};
 ghost use Rattle.pdw_syntax.specs.Lexemes as lexemes;
 ghost use Rattle.pdw_syntax.specs.Exprs.{chained as chained_spec, with_sign as with_sign_spec};
-ghost use Rattle.pdw_parse.specs.Levels.{Nests, nested};
-ghost use Rattle.pdw_parse.specs.ReadExprs as spec;
-ghost use Rattle.pdw_parse.specs.Reading.{Reads, many};
+ghost use Rattle.pdw_reading.specs.Levels.{Nests, nested};
+ghost use Rattle.pdw_reading.specs.ReadExprs as spec;
+ghost use Rattle.pdw_reading.specs.Reading.{Reads, many};
 
-use crate::content::{Content, Wanted};
 use crate::grammar::Grammar;
 use crate::lexemes::{aggregate_of, factor_operator_of, minus_of, term_operator_of};
 use crate::lists::first_and_rest;
-use crate::parse_error::Stop;
 use crate::tokens::Tokens;
 use pdw_base::Str;
 use pdw_expr::{AggKind, Arith};
 use pdw_lex::{Lexeme, Sign};
+use pdw_reading::{Content, Stop, Wanted};
 use pdw_syntax::{ColRef, SqlExpr};
 use sqlite_items::{Boxed, Items as ListOf};
 use std::alloc::{AllocError, Global};
+use std::mem::drop;
 
 // An operand and what is chained to it.
 fn chained(
@@ -67,7 +67,7 @@ fn count_of(alloc: Global, counted: Option<SqlExpr>) -> Result<SqlExpr, AllocErr
 }
 
 /// A column that begins with this name.
-#[tactic(auto, unfolding(crate::specs::ReadExprs::column_from))]
+#[tactic(auto, unfolding(pdw_reading::specs::ReadExprs::column_from))]
 pub fn column_from(alloc: Global, tokens: &mut Tokens<'_>, first: Str) -> Result<ColRef, Stop>
     ensures { Reads (spec.column_from first tokens.old) result tokens.new }
 {
@@ -84,12 +84,20 @@ pub fn column_from(alloc: Global, tokens: &mut Tokens<'_>, first: Str) -> Result
     })
 }
 
-#[tactic(auto, unfolding(crate::specs::ReadExprs::column_reference))]
+#[tactic(auto, unfolding(pdw_reading::specs::ReadExprs::column_reference))]
 pub fn column_reference(alloc: Global, tokens: &mut Tokens<'_>) -> Result<ColRef, Stop>
     ensures { Reads (spec.column_reference tokens.old) result tokens.new }
 {
     let first = tokens.take_name(alloc)?;
     column_from(alloc, tokens, first)
+}
+
+// The value of the column that begins with this name.
+fn column_value(alloc: Global, tokens: &mut Tokens<'_>, name: &Str) -> Result<SqlExpr, Stop>
+    ensures { Reads (spec.column_value name.now tokens.old) result tokens.new }
+{
+    let first = name.try_copy(alloc)?;
+    Ok(SqlExpr::Col(column_from(alloc, tokens, first)?))
 }
 
 impl<F: Fn(Global, &mut Tokens<'_>, usize, Wanted) -> Result<Content, Stop>> Grammar<F> {
@@ -109,7 +117,7 @@ impl<F: Fn(Global, &mut Tokens<'_>, usize, Wanted) -> Result<Content, Stop>> Gra
         })
     }
 
-    #[tactic(auto, unfolding(crate::specs::ReadExprs::aggregate, crate::specs::Reading::take))]
+    #[tactic(auto, unfolding(pdw_reading::specs::ReadExprs::aggregate, pdw_reading::specs::Reading::take))]
     fn aggregate(&self, tokens: &mut Tokens<'_>) -> Result<SqlExpr, Stop>
         requires { Nests self.now.depth (F.pre self.now.group) (F.post self.now.group) }
         ensures { Reads (spec.aggregate (nested self.now.depth) tokens.old) result tokens.new }
@@ -118,7 +126,7 @@ impl<F: Fn(Global, &mut Tokens<'_>, usize, Wanted) -> Result<Content, Stop>> Gra
         self.aggregated(tokens, kind)
     }
 
-    #[tactic(auto, unfolding(crate::specs::ReadExprs::value))]
+    #[tactic(auto, unfolding(pdw_reading::specs::ReadExprs::value))]
     fn value(&self, tokens: &mut Tokens<'_>) -> Result<SqlExpr, Stop>
         requires { Nests self.now.depth (F.pre self.now.group) (F.post self.now.group) }
         ensures { Reads (spec.value (nested self.now.depth) tokens.old) result tokens.new }
@@ -134,8 +142,7 @@ impl<F: Fn(Global, &mut Tokens<'_>, usize, Wanted) -> Result<Content, Stop>> Gra
             }
             Some(Lexeme::Name(name)) => {
                 tokens.advance();
-                let first = name.try_copy(self.alloc)?;
-                Ok(SqlExpr::Col(column_from(self.alloc, tokens, first)?))
+                column_value(self.alloc, tokens, name)
             }
             Some(Lexeme::Key(_)) => self.aggregate(tokens),
             _ => {
@@ -145,7 +152,7 @@ impl<F: Fn(Global, &mut Tokens<'_>, usize, Wanted) -> Result<Content, Stop>> Gra
         }
     }
 
-    #[tactic(auto, unfolding(crate::specs::ReadExprs::signed, crate::specs::Reading::take_if))]
+    #[tactic(auto, unfolding(pdw_reading::specs::ReadExprs::signed, pdw_reading::specs::Reading::take_if))]
     fn signed(&self, tokens: &mut Tokens<'_>) -> Result<SqlExpr, Stop>
         requires { Nests self.now.depth (F.pre self.now.group) (F.post self.now.group) }
         ensures { Reads (spec.signed (nested self.now.depth) tokens.old) result tokens.new }
@@ -156,7 +163,7 @@ impl<F: Fn(Global, &mut Tokens<'_>, usize, Wanted) -> Result<Content, Stop>> Gra
     }
 
     // An operator and its right operand, if an operator comes next.
-    #[tactic(auto, unfolding(crate::specs::Reading::take_if))]
+    #[tactic(auto, unfolding(pdw_reading::specs::Reading::take_if))]
     fn factor_operation(&self, tokens: &mut Tokens<'_>) -> Result<Option<(Arith, SqlExpr)>, Stop>
         requires { Nests self.now.depth (F.pre self.now.group) (F.post self.now.group) }
         ensures { Reads (spec.operations lexemes.factor_operator_of (spec.signed (nested self.now.depth)) tokens.old) result tokens.new }
@@ -168,7 +175,7 @@ impl<F: Fn(Global, &mut Tokens<'_>, usize, Wanted) -> Result<Content, Stop>> Gra
     }
 
     // The operators of a product with their right operands.
-    #[tactic(auto, using(crate::proofs::Turns::turns), unfolding(crate::specs::Reading::many))]
+    #[tactic(auto, using(crate::proofs::Turns::turns), unfolding(pdw_reading::specs::Reading::many))]
     fn factor_operations(&self, tokens: &mut Tokens<'_>) -> Result<ListOf<(Arith, SqlExpr)>, Stop>
         requires { Nests self.now.depth (F.pre self.now.group) (F.post self.now.group) }
         ensures { Reads (many (spec.operations lexemes.factor_operator_of (spec.signed (nested self.now.depth))) tokens.old) result tokens.new }
@@ -184,16 +191,21 @@ impl<F: Fn(Global, &mut Tokens<'_>, usize, Wanted) -> Result<Content, Stop>> Gra
     }
 
     /// A product that begins with this operand.
-    #[tactic(auto, unfolding(crate::specs::ReadExprs::product_from))]
+    #[tactic(auto, unfolding(pdw_reading::specs::ReadExprs::product_from))]
     fn product_from(&self, tokens: &mut Tokens<'_>, first: SqlExpr) -> Result<SqlExpr, Stop>
         requires { Nests self.now.depth (F.pre self.now.group) (F.post self.now.group) }
         ensures { Reads (spec.product_from (nested self.now.depth) first tokens.old) result tokens.new }
     {
-        let rest = self.factor_operations(tokens)?;
-        Ok(chained(self.alloc, first, rest)?)
+        match self.factor_operations(tokens) {
+            Ok(rest) => Ok(chained(self.alloc, first, rest)?),
+            Err(stop) => {
+                drop(first);
+                Err(stop)
+            }
+        }
     }
 
-    #[tactic(auto, unfolding(crate::specs::ReadExprs::product))]
+    #[tactic(auto, unfolding(pdw_reading::specs::ReadExprs::product))]
     fn product(&self, tokens: &mut Tokens<'_>) -> Result<SqlExpr, Stop>
         requires { Nests self.now.depth (F.pre self.now.group) (F.post self.now.group) }
         ensures { Reads (spec.product (nested self.now.depth) tokens.old) result tokens.new }
@@ -203,7 +215,7 @@ impl<F: Fn(Global, &mut Tokens<'_>, usize, Wanted) -> Result<Content, Stop>> Gra
     }
 
     // An operator and its right operand, if an operator comes next.
-    #[tactic(auto, unfolding(crate::specs::Reading::take_if))]
+    #[tactic(auto, unfolding(pdw_reading::specs::Reading::take_if))]
     fn term_operation(&self, tokens: &mut Tokens<'_>) -> Result<Option<(Arith, SqlExpr)>, Stop>
         requires { Nests self.now.depth (F.pre self.now.group) (F.post self.now.group) }
         ensures { Reads (spec.operations lexemes.term_operator_of (spec.product (nested self.now.depth)) tokens.old) result tokens.new }
@@ -215,7 +227,7 @@ impl<F: Fn(Global, &mut Tokens<'_>, usize, Wanted) -> Result<Content, Stop>> Gra
     }
 
     // The operators of a sum with their right operands.
-    #[tactic(auto, using(crate::proofs::Turns::turns), unfolding(crate::specs::Reading::many))]
+    #[tactic(auto, using(crate::proofs::Turns::turns), unfolding(pdw_reading::specs::Reading::many))]
     fn term_operations(&self, tokens: &mut Tokens<'_>) -> Result<ListOf<(Arith, SqlExpr)>, Stop>
         requires { Nests self.now.depth (F.pre self.now.group) (F.post self.now.group) }
         ensures { Reads (many (spec.operations lexemes.term_operator_of (spec.product (nested self.now.depth))) tokens.old) result tokens.new }
@@ -231,16 +243,21 @@ impl<F: Fn(Global, &mut Tokens<'_>, usize, Wanted) -> Result<Content, Stop>> Gra
     }
 
     // A sum that begins with this operand.
-    #[tactic(auto, unfolding(crate::specs::ReadExprs::sum_from))]
+    #[tactic(auto, unfolding(pdw_reading::specs::ReadExprs::sum_from))]
     fn sum_from(&self, tokens: &mut Tokens<'_>, first: SqlExpr) -> Result<SqlExpr, Stop>
         requires { Nests self.now.depth (F.pre self.now.group) (F.post self.now.group) }
         ensures { Reads (spec.sum_from (nested self.now.depth) first tokens.old) result tokens.new }
     {
-        let rest = self.term_operations(tokens)?;
-        Ok(chained(self.alloc, first, rest)?)
+        match self.term_operations(tokens) {
+            Ok(rest) => Ok(chained(self.alloc, first, rest)?),
+            Err(stop) => {
+                drop(first);
+                Err(stop)
+            }
+        }
     }
 
-    #[tactic(auto, unfolding(crate::specs::ReadExprs::expr))]
+    #[tactic(auto, unfolding(pdw_reading::specs::ReadExprs::expr))]
     pub fn expr(&self, tokens: &mut Tokens<'_>) -> Result<SqlExpr, Stop>
         requires { Nests self.now.depth (F.pre self.now.group) (F.post self.now.group) }
         ensures { Reads (spec.expr (nested self.now.depth) tokens.old) result tokens.new }
@@ -250,7 +267,7 @@ impl<F: Fn(Global, &mut Tokens<'_>, usize, Wanted) -> Result<Content, Stop>> Gra
     }
 
     /// An expression that begins with this value.
-    #[tactic(auto, unfolding(crate::specs::ReadExprs::expr_from))]
+    #[tactic(auto, unfolding(pdw_reading::specs::ReadExprs::expr_from))]
     pub fn expr_from(&self, tokens: &mut Tokens<'_>, first: SqlExpr) -> Result<SqlExpr, Stop>
         requires { Nests self.now.depth (F.pre self.now.group) (F.post self.now.group) }
         ensures { Reads (spec.expr_from (nested self.now.depth) first tokens.old) result tokens.new }
@@ -260,7 +277,7 @@ impl<F: Fn(Global, &mut Tokens<'_>, usize, Wanted) -> Result<Content, Stop>> Gra
     }
 
     /// What COUNT counts: None is `*`.
-    #[tactic(auto, unfolding(crate::specs::ReadExprs::counted))]
+    #[tactic(auto, unfolding(pdw_reading::specs::ReadExprs::counted))]
     pub fn counted(&self, tokens: &mut Tokens<'_>) -> Result<Option<SqlExpr>, Stop>
         requires { Nests self.now.depth (F.pre self.now.group) (F.post self.now.group) }
         ensures { Reads (spec.counted (nested self.now.depth) tokens.old) result tokens.new }
@@ -272,7 +289,7 @@ impl<F: Fn(Global, &mut Tokens<'_>, usize, Wanted) -> Result<Content, Stop>> Gra
     }
 
     // The expression after a comma, if one comes next.
-    #[tactic(auto, unfolding(crate::specs::Reading::eat))]
+    #[tactic(auto, unfolding(pdw_reading::specs::Reading::eat))]
     fn expr_after_comma(&self, tokens: &mut Tokens<'_>) -> Result<Option<SqlExpr>, Stop>
         requires { Nests self.now.depth (F.pre self.now.group) (F.post self.now.group) }
         ensures { Reads (spec.after_comma (spec.expr (nested self.now.depth)) tokens.old) result tokens.new }
@@ -284,7 +301,7 @@ impl<F: Fn(Global, &mut Tokens<'_>, usize, Wanted) -> Result<Content, Stop>> Gra
         }
     }
 
-    #[tactic(auto, using(crate::proofs::Turns::turns), unfolding(crate::specs::Reading::many))]
+    #[tactic(auto, using(crate::proofs::Turns::turns), unfolding(pdw_reading::specs::Reading::many))]
     fn exprs_after_commas(&self, tokens: &mut Tokens<'_>) -> Result<ListOf<SqlExpr>, Stop>
         requires { Nests self.now.depth (F.pre self.now.group) (F.post self.now.group) }
         ensures { Reads (many (spec.after_comma (spec.expr (nested self.now.depth))) tokens.old) result tokens.new }
@@ -300,13 +317,18 @@ impl<F: Fn(Global, &mut Tokens<'_>, usize, Wanted) -> Result<Content, Stop>> Gra
     }
 
     /// Expressions with commas between them.
-    #[tactic(auto, unfolding(crate::specs::ReadExprs::listed))]
+    #[tactic(auto, unfolding(pdw_reading::specs::ReadExprs::listed))]
     pub fn exprs(&self, tokens: &mut Tokens<'_>) -> Result<ListOf<SqlExpr>, Stop>
         requires { Nests self.now.depth (F.pre self.now.group) (F.post self.now.group) }
         ensures { Reads (spec.listed (spec.expr (nested self.now.depth)) tokens.old) result tokens.new }
     {
         let first = self.expr(tokens)?;
-        let rest = self.exprs_after_commas(tokens)?;
-        Ok(first_and_rest(self.alloc, first, rest)?)
+        match self.exprs_after_commas(tokens) {
+            Ok(rest) => Ok(first_and_rest(self.alloc, first, rest)?),
+            Err(stop) => {
+                drop(first);
+                Err(stop)
+            }
+        }
     }
 }

@@ -1,11 +1,10 @@
 //! The rules that hold parentheses take what reads those as a parameter, so that each rule is proved by itself.
 
-ghost use Rattle.pdw_parse.specs.Levels.{Nests, content_by, nested};
-ghost use Rattle.pdw_parse.specs.Reading.{Reads};
+ghost use Rattle.pdw_reading.specs.Levels.{Nests, content_by, nested};
+ghost use Rattle.pdw_reading.specs.Reading.{Reads};
 
-use crate::content::{Among, Content, Operand, Source, Wanted};
-use crate::parse_error::Stop;
 use crate::tokens::Tokens;
+use pdw_reading::{Among, Content, Operand, Source, Stop, Wanted};
 use pdw_syntax::{Query, SqlExpr};
 use std::alloc::Global;
 

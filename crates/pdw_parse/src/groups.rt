@@ -1,14 +1,13 @@
 //! Parentheses, and what they hold.
 
 ghost use Rattle.std.specs.Prelude.{◌≡◌};
-ghost use Rattle.pdw_parse.specs.Levels.{Nests, content_by, inner_by, nested};
-ghost use Rattle.pdw_parse.specs.Reading.{Reads, closed};
+ghost use Rattle.pdw_reading.specs.Levels.{Nests, content_by, inner_by, nested};
+ghost use Rattle.pdw_reading.specs.Reading.{Reads, closed};
 
-use crate::content::{Content, Wanted};
 use crate::grammar::Grammar;
-use crate::parse_error::Stop;
 use crate::tokens::Tokens;
 use pdw_lex::Sign;
+use pdw_reading::{Content, Stop, Wanted};
 use std::alloc::Global;
 
 impl<F: Fn(Global, &mut Tokens<'_>, usize, Wanted) -> Result<Content, Stop>> Grammar<F> {

@@ -3,7 +3,7 @@
 ghost use Rattle.std.specs.Prelude.{◌≡◌};
 ghost use Rattle.std.specs.Option.{option_copied};
 ghost use Rattle.pdw_syntax.specs.Lexemes as spec;
-ghost use Rattle.pdw_parse.specs.Reading.{meaning_of};
+ghost use Rattle.pdw_reading.specs.Reading.{meaning_of};
 
 use pdw_base::{Kind, Truth};
 use pdw_expr::{AggKind, Arith, Cmp};

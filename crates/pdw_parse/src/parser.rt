@@ -1,20 +1,18 @@
-ghost use Rattle.std.specs.Prelude.{◌≡◌, ◌-◌, ◌≤◌, length, slice_get, IfOk, IfErr};
-ghost use Rattle.pdw_parse.specs.Fault.{IsFault, begins_at};
-ghost use Rattle.pdw_parse.specs.Spells.{Spells};
-ghost use Rattle.pdw_parse.specs.Tokens.{lexemes};
+//! The statements of a script.
 
-use crate::ParseError;
+ghost use Rattle.std.specs.Prelude.{◌≡◌, ◌-◌, ◌≤◌, length, slice_get, IfOk, IfErr};
+ghost use Rattle.pdw_reading.specs.Fault.{IsFault, begins_at};
+ghost use Rattle.pdw_reading.specs.Spells.{Spells};
+ghost use Rattle.pdw_reading.specs.Tokens.{lexemes};
+
 use crate::grammar::Grammar;
 use crate::groups::group;
-use crate::parse_error::Stop;
 use crate::tokens::Tokens;
 use pdw_lex::Token;
+use pdw_reading::{MOST_OPEN, ParseError, Stop};
 use pdw_syntax::Statement;
 use sqlite_items::Items as ListOf;
 use std::alloc::Global;
-
-/// The greatest number of parentheses that may be open at a place.
-pub const MOST_OPEN: usize = 32;
 
 // The place of the token at which so many tokens are left, or the end of the script.
 fn place(tokens: &[Token], left: usize, end: u32) -> u32

@@ -1,30 +1,30 @@
 //! Queries and SELECT.
 
 ghost use Rattle.std.specs.Prelude.{◌≡◌};
-ghost use Rattle.pdw_parse.specs.Levels.{Nests, nested};
-ghost use Rattle.pdw_parse.specs.ReadExprs.{after_comma, column_reference as column_reference_spec};
-ghost use Rattle.pdw_parse.specs.ReadQueries as spec;
+ghost use Rattle.pdw_reading.specs.Levels.{Nests, nested};
+ghost use Rattle.pdw_reading.specs.ReadExprs.{after_comma, column_reference as column_reference_spec};
+ghost use Rattle.pdw_reading.specs.ReadQueries as spec;
 ghost use Rattle.pdw_syntax.specs.Lexemes.{order_name_of};
-ghost use Rattle.pdw_parse.specs.Reading.{Reads, many, read, take};
+ghost use Rattle.pdw_reading.specs.Reading.{Reads, many, read, take};
 
-use crate::content::{Among, Content, Source, Wanted};
 use crate::exprs::column_reference;
 use crate::grammar::Grammar;
 use crate::lexemes::{direction_of, quantifier_of};
 use crate::lists::first_and_rest;
-use crate::parse_error::Stop;
 use crate::tables::alias;
 use crate::tokens::Tokens;
 use pdw_base::Str;
 use pdw_lex::{Keyword, Lexeme, Sign};
+use pdw_reading::{Among, Content, Source, Stop, Wanted};
 use pdw_syntax::{
     ColRef, Item, Items, OrderKey, OrderName, Query, Select, SqlCond, SqlExpr, TableRef,
 };
 use sqlite_items::Items as ListOf;
 use std::alloc::Global;
+use std::mem::drop;
 
 // Whether equal rows are to stand once.
-#[tactic(auto, unfolding(crate::specs::ReadQueries::distinct, crate::specs::Reading::take_if))]
+#[tactic(auto, unfolding(pdw_reading::specs::ReadQueries::distinct, pdw_reading::specs::Reading::take_if))]
 fn distinct(tokens: &mut Tokens<'_>) -> bool
     ensures { spec.distinct tokens.old ≡ read result tokens.new }
 {
@@ -34,7 +34,7 @@ fn distinct(tokens: &mut Tokens<'_>) -> bool
 }
 
 // The column after a comma, if one comes next.
-#[tactic(auto, unfolding(crate::specs::Reading::eat))]
+#[tactic(auto, unfolding(pdw_reading::specs::Reading::eat))]
 fn column_after_comma(alloc: Global, tokens: &mut Tokens<'_>) -> Result<Option<ColRef>, Stop>
     ensures { Reads (after_comma column_reference_spec tokens.old) result tokens.new }
 {
@@ -45,7 +45,7 @@ fn column_after_comma(alloc: Global, tokens: &mut Tokens<'_>) -> Result<Option<C
     }
 }
 
-#[tactic(auto, using(crate::proofs::Turns::turns), unfolding(crate::specs::Reading::many))]
+#[tactic(auto, using(crate::proofs::Turns::turns), unfolding(pdw_reading::specs::Reading::many))]
 fn columns_after_commas(alloc: Global, tokens: &mut Tokens<'_>) -> Result<ListOf<ColRef>, Stop>
     ensures { Reads (many (after_comma column_reference_spec) tokens.old) result tokens.new }
 {
@@ -60,7 +60,7 @@ fn columns_after_commas(alloc: Global, tokens: &mut Tokens<'_>) -> Result<ListOf
 }
 
 // The columns of GROUP BY, if that is written.
-#[tactic(auto, unfolding(crate::specs::ReadQueries::grouping, crate::specs::ReadExprs::listed))]
+#[tactic(auto, unfolding(pdw_reading::specs::ReadQueries::grouping, pdw_reading::specs::ReadExprs::listed))]
 fn grouping(alloc: Global, tokens: &mut Tokens<'_>) -> Result<ListOf<ColRef>, Stop>
     ensures { Reads (spec.grouping tokens.old) result tokens.new }
 {
@@ -74,7 +74,7 @@ fn grouping(alloc: Global, tokens: &mut Tokens<'_>) -> Result<ListOf<ColRef>, St
 }
 
 // What a key of ORDER BY names.
-#[tactic(auto, unfolding(crate::specs::Reading::take))]
+#[tactic(auto, unfolding(pdw_reading::specs::Reading::take))]
 fn order_name(alloc: Global, tokens: &mut Tokens<'_>) -> Result<OrderName, Stop>
     ensures { Reads (take order_name_of tokens.old) result tokens.new }
 {
@@ -91,7 +91,7 @@ fn order_name(alloc: Global, tokens: &mut Tokens<'_>) -> Result<OrderName, Stop>
     }
 }
 
-#[tactic(auto, unfolding(crate::specs::ReadQueries::order_key, crate::specs::Reading::take_if))]
+#[tactic(auto, unfolding(pdw_reading::specs::ReadQueries::order_key, pdw_reading::specs::Reading::take_if))]
 fn order_key(alloc: Global, tokens: &mut Tokens<'_>) -> Result<OrderKey, Stop>
     ensures { Reads (spec.order_key tokens.old) result tokens.new }
 {
@@ -104,7 +104,7 @@ fn order_key(alloc: Global, tokens: &mut Tokens<'_>) -> Result<OrderKey, Stop>
 }
 
 // The key after a comma, if one comes next.
-#[tactic(auto, unfolding(crate::specs::Reading::eat))]
+#[tactic(auto, unfolding(pdw_reading::specs::Reading::eat))]
 fn key_after_comma(alloc: Global, tokens: &mut Tokens<'_>) -> Result<Option<OrderKey>, Stop>
     ensures { Reads (after_comma spec.order_key tokens.old) result tokens.new }
 {
@@ -115,7 +115,7 @@ fn key_after_comma(alloc: Global, tokens: &mut Tokens<'_>) -> Result<Option<Orde
     }
 }
 
-#[tactic(auto, using(crate::proofs::Turns::turns), unfolding(crate::specs::Reading::many))]
+#[tactic(auto, using(crate::proofs::Turns::turns), unfolding(pdw_reading::specs::Reading::many))]
 fn keys_after_commas(alloc: Global, tokens: &mut Tokens<'_>) -> Result<ListOf<OrderKey>, Stop>
     ensures { Reads (many (after_comma spec.order_key) tokens.old) result tokens.new }
 {
@@ -130,7 +130,7 @@ fn keys_after_commas(alloc: Global, tokens: &mut Tokens<'_>) -> Result<ListOf<Or
 }
 
 // The keys of ORDER BY, if that is written.
-#[tactic(auto, unfolding(crate::specs::ReadQueries::ordering, crate::specs::ReadExprs::listed))]
+#[tactic(auto, unfolding(pdw_reading::specs::ReadQueries::ordering, pdw_reading::specs::ReadExprs::listed))]
 fn ordering(alloc: Global, tokens: &mut Tokens<'_>) -> Result<ListOf<OrderKey>, Stop>
     ensures { Reads (spec.ordering tokens.old) result tokens.new }
 {
@@ -143,16 +143,28 @@ fn ordering(alloc: Global, tokens: &mut Tokens<'_>) -> Result<ListOf<OrderKey>, 
     Ok(first_and_rest(alloc, first, rest)?)
 }
 
+// The item of this value, with its name if that is written.
+fn made(alloc: Global, tokens: &mut Tokens<'_>, value: SqlExpr) -> Result<Item, Stop>
+    ensures { Reads (spec.made value tokens.old) result tokens.new }
+{
+    match alias(alloc, tokens) {
+        Ok(name) => Ok(Item::Made { value, name }),
+        Err(stop) => {
+            drop(value);
+            Err(stop)
+        }
+    }
+}
+
 impl<F: Fn(Global, &mut Tokens<'_>, usize, Wanted) -> Result<Content, Stop>> Grammar<F> {
     // An item that begins with this value.
-    #[tactic(auto, unfolding(crate::specs::ReadQueries::made_from))]
+    #[tactic(auto, unfolding(pdw_reading::specs::ReadQueries::made_from))]
     fn made_from(&self, tokens: &mut Tokens<'_>, first: SqlExpr) -> Result<Item, Stop>
         requires { Nests self.now.depth (F.pre self.now.group) (F.post self.now.group) }
         ensures { Reads (spec.made_from (nested self.now.depth) first tokens.old) result tokens.new }
     {
         let value = self.expr_from(tokens, first)?;
-        let name = alias(self.alloc, tokens)?;
-        Ok(Item::Made { value, name })
+        made(self.alloc, tokens, value)
     }
 
     // An item that begins with this name and a dot.
@@ -190,7 +202,7 @@ impl<F: Fn(Global, &mut Tokens<'_>, usize, Wanted) -> Result<Content, Stop>> Gra
         )
     }
 
-    #[tactic(auto, unfolding(crate::specs::ReadQueries::item))]
+    #[tactic(auto, unfolding(pdw_reading::specs::ReadQueries::item))]
     fn item(&self, tokens: &mut Tokens<'_>) -> Result<Item, Stop>
         requires { Nests self.now.depth (F.pre self.now.group) (F.post self.now.group) }
         ensures { Reads (spec.item (nested self.now.depth) tokens.old) result tokens.new }
@@ -201,12 +213,11 @@ impl<F: Fn(Global, &mut Tokens<'_>, usize, Wanted) -> Result<Content, Stop>> Gra
             return self.named(tokens, first);
         }
         let value = self.expr(tokens)?;
-        let name = alias(self.alloc, tokens)?;
-        Ok(Item::Made { value, name })
+        made(self.alloc, tokens, value)
     }
 
     // The item after a comma, if one comes next.
-    #[tactic(auto, unfolding(crate::specs::Reading::eat))]
+    #[tactic(auto, unfolding(pdw_reading::specs::Reading::eat))]
     fn item_after_comma(&self, tokens: &mut Tokens<'_>) -> Result<Option<Item>, Stop>
         requires { Nests self.now.depth (F.pre self.now.group) (F.post self.now.group) }
         ensures { Reads (after_comma (spec.item (nested self.now.depth)) tokens.old) result tokens.new }
@@ -218,7 +229,7 @@ impl<F: Fn(Global, &mut Tokens<'_>, usize, Wanted) -> Result<Content, Stop>> Gra
         }
     }
 
-    #[tactic(auto, using(crate::proofs::Turns::turns), unfolding(crate::specs::Reading::many))]
+    #[tactic(auto, using(crate::proofs::Turns::turns), unfolding(pdw_reading::specs::Reading::many))]
     fn items_after_commas(&self, tokens: &mut Tokens<'_>) -> Result<ListOf<Item>, Stop>
         requires { Nests self.now.depth (F.pre self.now.group) (F.post self.now.group) }
         ensures { Reads (many (after_comma (spec.item (nested self.now.depth))) tokens.old) result tokens.new }
@@ -233,7 +244,7 @@ impl<F: Fn(Global, &mut Tokens<'_>, usize, Wanted) -> Result<Content, Stop>> Gra
         Ok(found)
     }
 
-    #[tactic(auto, unfolding(crate::specs::ReadQueries::items, crate::specs::ReadExprs::listed))]
+    #[tactic(auto, unfolding(pdw_reading::specs::ReadQueries::items, pdw_reading::specs::ReadExprs::listed))]
     fn items(&self, tokens: &mut Tokens<'_>) -> Result<Items, Stop>
         requires { Nests self.now.depth (F.pre self.now.group) (F.post self.now.group) }
         ensures { Reads (spec.items (nested self.now.depth) tokens.old) result tokens.new }
@@ -242,12 +253,17 @@ impl<F: Fn(Global, &mut Tokens<'_>, usize, Wanted) -> Result<Content, Stop>> Gra
             return Ok(Items::Star);
         }
         let first = self.item(tokens)?;
-        let rest = self.items_after_commas(tokens)?;
-        Ok(Items::List(first_and_rest(self.alloc, first, rest)?))
+        match self.items_after_commas(tokens) {
+            Ok(rest) => Ok(Items::List(first_and_rest(self.alloc, first, rest)?)),
+            Err(stop) => {
+                drop(first);
+                Err(stop)
+            }
+        }
     }
 
     // The condition of WHERE, if that is written.
-    #[tactic(auto, unfolding(crate::specs::ReadQueries::filter, crate::specs::Reading::eat))]
+    #[tactic(auto, unfolding(pdw_reading::specs::ReadQueries::filter, pdw_reading::specs::Reading::eat))]
     fn filter(&self, tokens: &mut Tokens<'_>) -> Result<Option<SqlCond>, Stop>
         requires { Nests self.now.depth (F.pre self.now.group) (F.post self.now.group) }
         ensures { Reads (spec.filter (nested self.now.depth) tokens.old) result tokens.new }
@@ -260,7 +276,7 @@ impl<F: Fn(Global, &mut Tokens<'_>, usize, Wanted) -> Result<Content, Stop>> Gra
     }
 
     // The condition of HAVING, if that is written.
-    #[tactic(auto, unfolding(crate::specs::ReadQueries::having, crate::specs::Reading::eat))]
+    #[tactic(auto, unfolding(pdw_reading::specs::ReadQueries::having, pdw_reading::specs::Reading::eat))]
     fn having(&self, tokens: &mut Tokens<'_>) -> Result<Option<SqlCond>, Stop>
         requires { Nests self.now.depth (F.pre self.now.group) (F.post self.now.group) }
         ensures { Reads (spec.having (nested self.now.depth) tokens.old) result tokens.new }
@@ -273,7 +289,7 @@ impl<F: Fn(Global, &mut Tokens<'_>, usize, Wanted) -> Result<Content, Stop>> Gra
     }
 
     // A query that may go on with HAVING.
-    #[tactic(auto, unfolding(crate::specs::ReadQueries::query_grouped))]
+    #[tactic(auto, unfolding(pdw_reading::specs::ReadQueries::query_grouped))]
     fn query_grouped(
         &self,
         tokens: &mut Tokens<'_>,
@@ -286,19 +302,27 @@ impl<F: Fn(Global, &mut Tokens<'_>, usize, Wanted) -> Result<Content, Stop>> Gra
         requires { Nests self.now.depth (F.pre self.now.group) (F.post self.now.group) }
         ensures { Reads (spec.query_grouped (nested self.now.depth) distinct items from filter group tokens.old) result tokens.new }
     {
-        let having = self.having(tokens)?;
-        Ok(Query {
-            distinct,
-            items,
-            from,
-            filter,
-            group,
-            having,
-        })
+        match self.having(tokens) {
+            Ok(having) => Ok(Query {
+                distinct,
+                items,
+                from,
+                filter,
+                group,
+                having,
+            }),
+            Err(stop) => {
+                drop(items);
+                drop(from);
+                drop(filter);
+                drop(group);
+                Err(stop)
+            }
+        }
     }
 
     // A query that may go on with GROUP BY.
-    #[tactic(auto, unfolding(crate::specs::ReadQueries::query_filtered))]
+    #[tactic(auto, unfolding(pdw_reading::specs::ReadQueries::query_filtered))]
     fn query_filtered(
         &self,
         tokens: &mut Tokens<'_>,
@@ -310,12 +334,19 @@ impl<F: Fn(Global, &mut Tokens<'_>, usize, Wanted) -> Result<Content, Stop>> Gra
         requires { Nests self.now.depth (F.pre self.now.group) (F.post self.now.group) }
         ensures { Reads (spec.query_filtered (nested self.now.depth) distinct items from filter tokens.old) result tokens.new }
     {
-        let group = grouping(self.alloc, tokens)?;
-        self.query_grouped(tokens, distinct, items, from, filter, group)
+        match grouping(self.alloc, tokens) {
+            Ok(group) => self.query_grouped(tokens, distinct, items, from, filter, group),
+            Err(stop) => {
+                drop(items);
+                drop(from);
+                drop(filter);
+                Err(stop)
+            }
+        }
     }
 
     // A query that may go on with WHERE.
-    #[tactic(auto, unfolding(crate::specs::ReadQueries::query_of))]
+    #[tactic(auto, unfolding(pdw_reading::specs::ReadQueries::query_of))]
     fn query_of(
         &self,
         tokens: &mut Tokens<'_>,
@@ -326,12 +357,18 @@ impl<F: Fn(Global, &mut Tokens<'_>, usize, Wanted) -> Result<Content, Stop>> Gra
         requires { Nests self.now.depth (F.pre self.now.group) (F.post self.now.group) }
         ensures { Reads (spec.query_of (nested self.now.depth) distinct items from tokens.old) result tokens.new }
     {
-        let filter = self.filter(tokens)?;
-        self.query_filtered(tokens, distinct, items, from, filter)
+        match self.filter(tokens) {
+            Ok(filter) => self.query_filtered(tokens, distinct, items, from, filter),
+            Err(stop) => {
+                drop(items);
+                drop(from);
+                Err(stop)
+            }
+        }
     }
 
     // A query that goes on with the word FROM.
-    #[tactic(auto, unfolding(crate::specs::ReadQueries::query_from))]
+    #[tactic(auto, unfolding(pdw_reading::specs::ReadQueries::query_from))]
     fn query_from(
         &self,
         tokens: &mut Tokens<'_>,
@@ -346,7 +383,7 @@ impl<F: Fn(Global, &mut Tokens<'_>, usize, Wanted) -> Result<Content, Stop>> Gra
         self.query_of(tokens, distinct, items, from)
     }
 
-    #[tactic(auto, unfolding(crate::specs::ReadQueries::query))]
+    #[tactic(auto, unfolding(pdw_reading::specs::ReadQueries::query))]
     pub fn query(&self, tokens: &mut Tokens<'_>) -> Result<Query, Stop>
         requires { Nests self.now.depth (F.pre self.now.group) (F.post self.now.group) }
         ensures { Reads (spec.query (nested self.now.depth) tokens.old) result tokens.new }
@@ -357,18 +394,23 @@ impl<F: Fn(Global, &mut Tokens<'_>, usize, Wanted) -> Result<Content, Stop>> Gra
         self.query_from(tokens, distinct, items)
     }
 
-    #[tactic(auto, unfolding(crate::specs::ReadQueries::select))]
+    #[tactic(auto, unfolding(pdw_reading::specs::ReadQueries::select))]
     pub fn select(&self, tokens: &mut Tokens<'_>) -> Result<Select, Stop>
         requires { Nests self.now.depth (F.pre self.now.group) (F.post self.now.group) }
         ensures { Reads (spec.select (nested self.now.depth) tokens.old) result tokens.new }
     {
         let query = self.query(tokens)?;
-        let order = ordering(self.alloc, tokens)?;
-        Ok(Select { query, order })
+        match ordering(self.alloc, tokens) {
+            Ok(order) => Ok(Select { query, order }),
+            Err(stop) => {
+                drop(query);
+                Err(stop)
+            }
+        }
     }
 
     /// What a value is looked for in.
-    #[tactic(auto, unfolding(crate::specs::ReadQueries::among))]
+    #[tactic(auto, unfolding(pdw_reading::specs::ReadQueries::among))]
     pub fn among(&self, tokens: &mut Tokens<'_>) -> Result<Among, Stop>
         requires { Nests self.now.depth (F.pre self.now.group) (F.post self.now.group) }
         ensures { Reads (spec.among (nested self.now.depth) tokens.old) result tokens.new }
@@ -381,7 +423,7 @@ impl<F: Fn(Global, &mut Tokens<'_>, usize, Wanted) -> Result<Content, Stop>> Gra
     }
 
     /// What stands in parentheses in FROM.
-    #[tactic(auto, unfolding(crate::specs::ReadQueries::source))]
+    #[tactic(auto, unfolding(pdw_reading::specs::ReadQueries::source))]
     pub fn source(&self, tokens: &mut Tokens<'_>) -> Result<Source, Stop>
         requires { Nests self.now.depth (F.pre self.now.group) (F.post self.now.group) }
         ensures { Reads (spec.source (nested self.now.depth) tokens.old) result tokens.new }

@@ -1,26 +1,26 @@
 //! Statements and scripts.
 
 ghost use Rattle.pdw_syntax.specs.Lexemes.{name_of};
-ghost use Rattle.pdw_parse.specs.Levels.{Nests, nested};
-ghost use Rattle.pdw_parse.specs.ReadExprs.{after_comma};
-ghost use Rattle.pdw_parse.specs.ReadStatements as spec;
-ghost use Rattle.pdw_parse.specs.Reading.{Reads, enclosed, many, take};
+ghost use Rattle.pdw_reading.specs.Levels.{Nests, nested};
+ghost use Rattle.pdw_reading.specs.ReadExprs.{after_comma};
+ghost use Rattle.pdw_reading.specs.ReadStatements as spec;
+ghost use Rattle.pdw_reading.specs.Reading.{Reads, enclosed, many, take};
 
-use crate::content::{Content, Wanted};
 use crate::grammar::Grammar;
 use crate::lexemes::{cost_part_of, kind_of};
 use crate::lists::first_and_rest;
-use crate::parse_error::Stop;
 use crate::tokens::Tokens;
 use pdw_base::Str;
 use pdw_catalog::Column;
 use pdw_lex::{Keyword, Lexeme, Sign};
+use pdw_reading::{Content, Stop, Wanted};
 use pdw_syntax::Statement;
 use sqlite_items::Items as ListOf;
 use std::alloc::Global;
+use std::mem::drop;
 
 // Whether a column may hold NULL.
-#[tactic(auto, unfolding(crate::specs::ReadStatements::nullable))]
+#[tactic(auto, unfolding(pdw_reading::specs::ReadStatements::nullable))]
 fn nullable(tokens: &mut Tokens<'_>) -> Result<bool, Stop>
     ensures { Reads (spec.nullable tokens.old) result tokens.new }
 {
@@ -31,7 +31,7 @@ fn nullable(tokens: &mut Tokens<'_>) -> Result<bool, Stop>
     Ok(false)
 }
 
-#[tactic(auto, unfolding(crate::specs::ReadStatements::column, crate::specs::Reading::take))]
+#[tactic(auto, unfolding(pdw_reading::specs::ReadStatements::column, pdw_reading::specs::Reading::take))]
 fn column(alloc: Global, tokens: &mut Tokens<'_>) -> Result<Column, Stop>
     ensures { Reads (spec.column tokens.old) result tokens.new }
 {
@@ -46,7 +46,7 @@ fn column(alloc: Global, tokens: &mut Tokens<'_>) -> Result<Column, Stop>
 }
 
 // The column after a comma, if one comes next.
-#[tactic(auto, unfolding(crate::specs::Reading::eat))]
+#[tactic(auto, unfolding(pdw_reading::specs::Reading::eat))]
 fn column_after_comma(alloc: Global, tokens: &mut Tokens<'_>) -> Result<Option<Column>, Stop>
     ensures { Reads (after_comma spec.column tokens.old) result tokens.new }
 {
@@ -57,7 +57,7 @@ fn column_after_comma(alloc: Global, tokens: &mut Tokens<'_>) -> Result<Option<C
     }
 }
 
-#[tactic(auto, using(crate::proofs::Turns::turns), unfolding(crate::specs::Reading::many))]
+#[tactic(auto, using(crate::proofs::Turns::turns), unfolding(pdw_reading::specs::Reading::many))]
 fn columns_after_commas(alloc: Global, tokens: &mut Tokens<'_>) -> Result<ListOf<Column>, Stop>
     ensures { Reads (many (after_comma spec.column) tokens.old) result tokens.new }
 {
@@ -72,7 +72,7 @@ fn columns_after_commas(alloc: Global, tokens: &mut Tokens<'_>) -> Result<ListOf
 }
 
 // The columns of a table in their parentheses.
-#[tactic(auto, unfolding(crate::specs::ReadStatements::columns, crate::specs::ReadExprs::listed))]
+#[tactic(auto, unfolding(pdw_reading::specs::ReadStatements::columns, pdw_reading::specs::ReadExprs::listed))]
 fn columns(alloc: Global, tokens: &mut Tokens<'_>) -> Result<ListOf<Column>, Stop>
     ensures { Reads (spec.columns tokens.old) result tokens.new }
 {
@@ -94,7 +94,7 @@ fn enclosed_name(alloc: Global, tokens: &mut Tokens<'_>) -> Result<Str, Stop>
 }
 
 // The column by which a table is distributed, or None where it is replicated.
-#[tactic(auto, unfolding(crate::specs::ReadStatements::placing))]
+#[tactic(auto, unfolding(pdw_reading::specs::ReadStatements::placing))]
 fn placing(alloc: Global, tokens: &mut Tokens<'_>) -> Result<Option<Str>, Stop>
     ensures { Reads (spec.placing tokens.old) result tokens.new }
 {
@@ -105,7 +105,7 @@ fn placing(alloc: Global, tokens: &mut Tokens<'_>) -> Result<Option<Str>, Stop>
     Ok(None)
 }
 
-#[tactic(auto, unfolding(crate::specs::ReadStatements::distribution))]
+#[tactic(auto, unfolding(pdw_reading::specs::ReadStatements::distribution))]
 fn distribution(alloc: Global, tokens: &mut Tokens<'_>) -> Result<Option<Str>, Stop>
     ensures { Reads (spec.distribution tokens.old) result tokens.new }
 {
@@ -125,7 +125,7 @@ fn enclosed_distribution(alloc: Global, tokens: &mut Tokens<'_>) -> Result<Optio
 }
 
 // CREATE TABLE from the word WITH on.
-#[tactic(auto, unfolding(crate::specs::ReadStatements::create_with))]
+#[tactic(auto, unfolding(pdw_reading::specs::ReadStatements::create_with))]
 fn create_with(
     alloc: Global,
     tokens: &mut Tokens<'_>,
@@ -143,7 +143,7 @@ fn create_with(
     })
 }
 
-#[tactic(auto, unfolding(crate::specs::ReadStatements::create))]
+#[tactic(auto, unfolding(pdw_reading::specs::ReadStatements::create))]
 fn create(alloc: Global, tokens: &mut Tokens<'_>) -> Result<Statement, Stop>
     ensures { Reads (spec.create tokens.old) result tokens.new }
 {
@@ -154,7 +154,7 @@ fn create(alloc: Global, tokens: &mut Tokens<'_>) -> Result<Statement, Stop>
     create_with(alloc, tokens, table, columns)
 }
 
-#[tactic(auto, unfolding(crate::specs::ReadStatements::drop_table))]
+#[tactic(auto, unfolding(pdw_reading::specs::ReadStatements::drop_table))]
 fn drop_table(alloc: Global, tokens: &mut Tokens<'_>) -> Result<Statement, Stop>
     ensures { Reads (spec.drop_table tokens.old) result tokens.new }
 {
@@ -163,7 +163,7 @@ fn drop_table(alloc: Global, tokens: &mut Tokens<'_>) -> Result<Statement, Stop>
     Ok(Statement::Drop(tokens.take_name(alloc)?))
 }
 
-#[tactic(auto, unfolding(crate::specs::ReadStatements::load))]
+#[tactic(auto, unfolding(pdw_reading::specs::ReadStatements::load))]
 fn load(alloc: Global, tokens: &mut Tokens<'_>) -> Result<Statement, Stop>
     ensures { Reads (spec.load tokens.old) result tokens.new }
 {
@@ -175,7 +175,7 @@ fn load(alloc: Global, tokens: &mut Tokens<'_>) -> Result<Statement, Stop>
 }
 
 // What is said of a column.
-#[tactic(auto, unfolding(crate::specs::ReadStatements::column_statistics))]
+#[tactic(auto, unfolding(pdw_reading::specs::ReadStatements::column_statistics))]
 fn column_statistics(alloc: Global, tokens: &mut Tokens<'_>) -> Result<(Str, i64, i64), Stop>
     ensures { Reads (spec.column_statistics tokens.old) result tokens.new }
 {
@@ -187,7 +187,7 @@ fn column_statistics(alloc: Global, tokens: &mut Tokens<'_>) -> Result<(Str, i64
     Ok((column, distinct, width))
 }
 
-#[tactic(auto, unfolding(crate::specs::Reading::eat))]
+#[tactic(auto, unfolding(pdw_reading::specs::Reading::eat))]
 fn statistics_after_comma(
     alloc: Global,
     tokens: &mut Tokens<'_>,
@@ -201,7 +201,7 @@ fn statistics_after_comma(
     }
 }
 
-#[tactic(auto, using(crate::proofs::Turns::turns), unfolding(crate::specs::Reading::many))]
+#[tactic(auto, using(crate::proofs::Turns::turns), unfolding(pdw_reading::specs::Reading::many))]
 fn statistics_after_commas(
     alloc: Global,
     tokens: &mut Tokens<'_>,
@@ -219,7 +219,7 @@ fn statistics_after_commas(
 }
 
 // What is said of a table after WITH.
-#[tactic(auto, unfolding(crate::specs::ReadStatements::handed_statistics))]
+#[tactic(auto, unfolding(pdw_reading::specs::ReadStatements::handed_statistics))]
 fn handed_statistics(
     alloc: Global,
     tokens: &mut Tokens<'_>,
@@ -233,7 +233,7 @@ fn handed_statistics(
 }
 
 // Statistics of this table, which are handed over where WITH comes next.
-#[tactic(auto, unfolding(crate::specs::Reading::eat))]
+#[tactic(auto, unfolding(pdw_reading::specs::Reading::eat))]
 fn statistics_of(alloc: Global, tokens: &mut Tokens<'_>, table: Str) -> Result<Statement, Stop>
     ensures { Reads (spec.statistics_from table tokens.old) result tokens.new }
 {
@@ -244,7 +244,7 @@ fn statistics_of(alloc: Global, tokens: &mut Tokens<'_>, table: Str) -> Result<S
     Ok(Statement::Hand { table, rows, cols })
 }
 
-#[tactic(auto, unfolding(crate::specs::ReadStatements::statistics))]
+#[tactic(auto, unfolding(pdw_reading::specs::ReadStatements::statistics))]
 fn statistics(alloc: Global, tokens: &mut Tokens<'_>) -> Result<Statement, Stop>
     ensures { Reads (spec.statistics tokens.old) result tokens.new }
 {
@@ -255,7 +255,7 @@ fn statistics(alloc: Global, tokens: &mut Tokens<'_>) -> Result<Statement, Stop>
 }
 
 // A constant of the cost.
-#[tactic(auto, unfolding(crate::specs::Reading::take))]
+#[tactic(auto, unfolding(pdw_reading::specs::Reading::take))]
 fn cost(tokens: &mut Tokens<'_>) -> Result<Statement, Stop>
     ensures { Reads (spec.cost_of tokens.old) result tokens.new }
 {
@@ -265,7 +265,7 @@ fn cost(tokens: &mut Tokens<'_>) -> Result<Statement, Stop>
     Ok(Statement::Cost { part, amount })
 }
 
-#[tactic(auto, unfolding(crate::specs::ReadStatements::setting))]
+#[tactic(auto, unfolding(pdw_reading::specs::ReadStatements::setting))]
 fn setting(tokens: &mut Tokens<'_>) -> Result<Statement, Stop>
     ensures { Reads (spec.setting tokens.old) result tokens.new }
 {
@@ -278,7 +278,7 @@ fn setting(tokens: &mut Tokens<'_>) -> Result<Statement, Stop>
 }
 
 impl<F: Fn(Global, &mut Tokens<'_>, usize, Wanted) -> Result<Content, Stop>> Grammar<F> {
-    #[tactic(auto, unfolding(crate::specs::ReadStatements::explain))]
+    #[tactic(auto, unfolding(pdw_reading::specs::ReadStatements::explain))]
     fn explain(&self, tokens: &mut Tokens<'_>) -> Result<Statement, Stop>
         requires { Nests self.now.depth (F.pre self.now.group) (F.post self.now.group) }
         ensures { Reads (spec.explain (nested self.now.depth) tokens.old) result tokens.new }
@@ -291,7 +291,7 @@ impl<F: Fn(Global, &mut Tokens<'_>, usize, Wanted) -> Result<Content, Stop>> Gra
         }
     }
 
-    #[tactic(auto, unfolding(crate::specs::ReadStatements::profile))]
+    #[tactic(auto, unfolding(pdw_reading::specs::ReadStatements::profile))]
     fn profile(&self, tokens: &mut Tokens<'_>) -> Result<Statement, Stop>
         requires { Nests self.now.depth (F.pre self.now.group) (F.post self.now.group) }
         ensures { Reads (spec.profile (nested self.now.depth) tokens.old) result tokens.new }
@@ -300,7 +300,7 @@ impl<F: Fn(Global, &mut Tokens<'_>, usize, Wanted) -> Result<Content, Stop>> Gra
         Ok(Statement::Profile(self.select(tokens)?))
     }
 
-    #[tactic(auto, unfolding(crate::specs::ReadStatements::check_plan))]
+    #[tactic(auto, unfolding(pdw_reading::specs::ReadStatements::check_plan))]
     fn check_plan(&self, tokens: &mut Tokens<'_>) -> Result<Statement, Stop>
         requires { Nests self.now.depth (F.pre self.now.group) (F.post self.now.group) }
         ensures { Reads (spec.check_plan (nested self.now.depth) tokens.old) result tokens.new }
@@ -314,7 +314,7 @@ impl<F: Fn(Global, &mut Tokens<'_>, usize, Wanted) -> Result<Content, Stop>> Gra
     }
 
     // A statement that begins with this word, which is still to be taken.
-    #[tactic(auto, unfolding(crate::specs::ReadStatements::worded))]
+    #[tactic(auto, unfolding(pdw_reading::specs::ReadStatements::worded))]
     fn worded(&self, tokens: &mut Tokens<'_>, word: &str) -> Result<Statement, Stop>
         requires { Nests self.now.depth (F.pre self.now.group) (F.post self.now.group) }
         ensures { Reads (spec.worded (nested self.now.depth) word.now tokens.old) result tokens.new }
@@ -328,7 +328,7 @@ impl<F: Fn(Global, &mut Tokens<'_>, usize, Wanted) -> Result<Content, Stop>> Gra
         }
     }
 
-    #[tactic(auto, unfolding(crate::specs::ReadStatements::statement))]
+    #[tactic(auto, unfolding(pdw_reading::specs::ReadStatements::statement))]
     fn statement(&self, tokens: &mut Tokens<'_>) -> Result<Statement, Stop>
         requires { Nests self.now.depth (F.pre self.now.group) (F.post self.now.group) }
         ensures { Reads (spec.statement (nested self.now.depth) tokens.old) result tokens.new }
@@ -345,7 +345,7 @@ impl<F: Fn(Global, &mut Tokens<'_>, usize, Wanted) -> Result<Content, Stop>> Gra
     }
 
     // The next statement with its semicolon, if the script goes on.
-    #[tactic(auto, unfolding(crate::specs::ReadStatements::next_statement))]
+    #[tactic(auto, unfolding(pdw_reading::specs::ReadStatements::next_statement))]
     fn next_statement(&self, tokens: &mut Tokens<'_>) -> Result<Option<Statement>, Stop>
         requires { Nests self.now.depth (F.pre self.now.group) (F.post self.now.group) }
         ensures { Reads (spec.next_statement (nested self.now.depth) tokens.old) result tokens.new }
@@ -354,12 +354,17 @@ impl<F: Fn(Global, &mut Tokens<'_>, usize, Wanted) -> Result<Content, Stop>> Gra
             return Ok(None);
         }
         let statement = self.statement(tokens)?;
-        tokens.take_sign(Sign::Semicolon)?;
-        Ok(Some(statement))
+        match tokens.take_sign(Sign::Semicolon) {
+            Ok(()) => Ok(Some(statement)),
+            Err(stop) => {
+                drop(statement);
+                Err(stop)
+            }
+        }
     }
 
     /// All statements of a script.
-    #[tactic(auto, using(crate::proofs::Turns::turns), unfolding(crate::specs::ReadStatements::script, crate::specs::Reading::many))]
+    #[tactic(auto, using(crate::proofs::Turns::turns), unfolding(pdw_reading::specs::ReadStatements::script, pdw_reading::specs::Reading::many))]
     pub fn script(&self, tokens: &mut Tokens<'_>) -> Result<ListOf<Statement>, Stop>
         requires { Nests self.now.depth (F.pre self.now.group) (F.post self.now.group) }
         ensures { Reads (spec.script (nested self.now.depth) tokens.old) result tokens.new }

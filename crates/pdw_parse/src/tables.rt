@@ -2,25 +2,25 @@
 
 ghost use Rattle.std.specs.Prelude.{◌≡◌};
 ghost use Rattle.pdw_syntax.specs.Lexemes as lexemes;
-ghost use Rattle.pdw_parse.specs.Levels.{Nests, nested};
-ghost use Rattle.pdw_parse.specs.ReadExprs.{after_comma};
-ghost use Rattle.pdw_parse.specs.ReadTables as spec;
-ghost use Rattle.pdw_parse.specs.Reading.{Reads, many, meaning_of, next, read};
+ghost use Rattle.pdw_reading.specs.Levels.{Nests, nested};
+ghost use Rattle.pdw_reading.specs.ReadExprs.{after_comma};
+ghost use Rattle.pdw_reading.specs.ReadTables as spec;
+ghost use Rattle.pdw_reading.specs.Reading.{Reads, many, meaning_of, next, read};
 
-use crate::content::{Content, Source, Wanted};
 use crate::grammar::Grammar;
 use crate::lexemes::outer_of;
 use crate::lists::first_and_rest;
-use crate::parse_error::Stop;
 use crate::tokens::Tokens;
 use pdw_base::Str;
 use pdw_lex::{Keyword, Lexeme, Sign};
+use pdw_reading::{Content, Source, Stop, Wanted};
 use pdw_syntax::{JoinPart, JoinWord, Primary, TableRef};
 use sqlite_items::{Boxed, Items as ListOf};
 use std::alloc::Global;
+use std::mem::drop;
 
 /// `[ AS ] name`
-#[tactic(auto, unfolding(crate::specs::ReadTables::called))]
+#[tactic(auto, unfolding(pdw_reading::specs::ReadTables::called))]
 pub fn called(alloc: Global, tokens: &mut Tokens<'_>) -> Result<Str, Stop>
     ensures { Reads (spec.called tokens.old) result tokens.new }
 {
@@ -48,7 +48,7 @@ fn alias_after(
 }
 
 /// `[ [ AS ] name ]`
-#[tactic(auto, unfolding(crate::specs::ReadTables::alias))]
+#[tactic(auto, unfolding(pdw_reading::specs::ReadTables::alias))]
 pub fn alias(alloc: Global, tokens: &mut Tokens<'_>) -> Result<Option<Str>, Stop>
     ensures { Reads (spec.alias tokens.old) result tokens.new }
 {
@@ -71,7 +71,7 @@ fn outer_word(tokens: &mut Tokens<'_>) -> Option<JoinWord>
 }
 
 // Which join comes next, if any, up to its word JOIN.
-#[tactic(auto, unfolding(crate::specs::ReadTables::join_word))]
+#[tactic(auto, unfolding(pdw_reading::specs::ReadTables::join_word))]
 fn join_word(tokens: &mut Tokens<'_>) -> Option<JoinWord>
     ensures { spec.join_word tokens.old ≡ read result tokens.new }
 {
@@ -104,7 +104,7 @@ impl<F: Fn(Global, &mut Tokens<'_>, usize, Wanted) -> Result<Content, Stop>> Gra
         }
     }
 
-    #[tactic(auto, unfolding(crate::specs::ReadTables::primary))]
+    #[tactic(auto, unfolding(pdw_reading::specs::ReadTables::primary))]
     fn primary(&self, tokens: &mut Tokens<'_>) -> Result<Primary, Stop>
         requires { Nests self.now.depth (F.pre self.now.group) (F.post self.now.group) }
         ensures { Reads (spec.primary (nested self.now.depth) tokens.old) result tokens.new }
@@ -117,6 +117,29 @@ impl<F: Fn(Global, &mut Tokens<'_>, usize, Wanted) -> Result<Content, Stop>> Gra
         }
         let inner = self.source_group(tokens)?;
         self.after_source(tokens, inner)
+    }
+
+    // The join of this table from its condition on.
+    fn joined_on(
+        &self,
+        tokens: &mut Tokens<'_>,
+        word: JoinWord,
+        right: Primary,
+    ) -> Result<JoinPart, Stop>
+        requires { Nests self.now.depth (F.pre self.now.group) (F.post self.now.group) }
+        ensures { Reads (spec.joined_on (nested self.now.depth) word right tokens.old) result tokens.new }
+    {
+        match self.cond(tokens) {
+            Ok(on) => Ok(JoinPart {
+                word,
+                right,
+                on: Some(on),
+            }),
+            Err(stop) => {
+                drop(right);
+                Err(stop)
+            }
+        }
     }
 
     // The join of this table, whose condition is still to come unless the join is CROSS.
@@ -136,17 +159,17 @@ impl<F: Fn(Global, &mut Tokens<'_>, usize, Wanted) -> Result<Content, Stop>> Gra
                 on: None,
             });
         }
-        tokens.take_key(Keyword::KwOn)?;
-        let on = self.cond(tokens)?;
-        Ok(JoinPart {
-            word,
-            right,
-            on: Some(on),
-        })
+        match tokens.take_key(Keyword::KwOn) {
+            Ok(()) => self.joined_on(tokens, word, right),
+            Err(stop) => {
+                drop(right);
+                Err(stop)
+            }
+        }
     }
 
     // The rest of a join of this kind, from its word JOIN on.
-    #[tactic(auto, unfolding(crate::specs::ReadTables::joined))]
+    #[tactic(auto, unfolding(pdw_reading::specs::ReadTables::joined))]
     fn joined(&self, tokens: &mut Tokens<'_>, word: JoinWord) -> Result<JoinPart, Stop>
         requires { Nests self.now.depth (F.pre self.now.group) (F.post self.now.group) }
         ensures { Reads (spec.joined (nested self.now.depth) word tokens.old) result tokens.new }
@@ -157,7 +180,7 @@ impl<F: Fn(Global, &mut Tokens<'_>, usize, Wanted) -> Result<Content, Stop>> Gra
     }
 
     // The join that comes next, if any.
-    #[tactic(auto, unfolding(crate::specs::ReadTables::join))]
+    #[tactic(auto, unfolding(pdw_reading::specs::ReadTables::join))]
     fn join(&self, tokens: &mut Tokens<'_>) -> Result<Option<JoinPart>, Stop>
         requires { Nests self.now.depth (F.pre self.now.group) (F.post self.now.group) }
         ensures { Reads (spec.join (nested self.now.depth) tokens.old) result tokens.new }
@@ -168,7 +191,7 @@ impl<F: Fn(Global, &mut Tokens<'_>, usize, Wanted) -> Result<Content, Stop>> Gra
         }
     }
 
-    #[tactic(auto, using(crate::proofs::Turns::turns), unfolding(crate::specs::Reading::many))]
+    #[tactic(auto, using(crate::proofs::Turns::turns), unfolding(pdw_reading::specs::Reading::many))]
     fn joins(&self, tokens: &mut Tokens<'_>) -> Result<ListOf<JoinPart>, Stop>
         requires { Nests self.now.depth (F.pre self.now.group) (F.post self.now.group) }
         ensures { Reads (many (spec.join (nested self.now.depth)) tokens.old) result tokens.new }
@@ -184,18 +207,23 @@ impl<F: Fn(Global, &mut Tokens<'_>, usize, Wanted) -> Result<Content, Stop>> Gra
     }
 
     /// A table, and those that are joined to it.
-    #[tactic(auto, unfolding(crate::specs::ReadTables::table_reference))]
+    #[tactic(auto, unfolding(pdw_reading::specs::ReadTables::table_reference))]
     pub fn table_reference(&self, tokens: &mut Tokens<'_>) -> Result<TableRef, Stop>
         requires { Nests self.now.depth (F.pre self.now.group) (F.post self.now.group) }
         ensures { Reads (spec.table_reference (nested self.now.depth) tokens.old) result tokens.new }
     {
         let first = self.primary(tokens)?;
-        let joins = self.joins(tokens)?;
-        Ok(TableRef { first, joins })
+        match self.joins(tokens) {
+            Ok(joins) => Ok(TableRef { first, joins }),
+            Err(stop) => {
+                drop(first);
+                Err(stop)
+            }
+        }
     }
 
     // The table reference after a comma, if one comes next.
-    #[tactic(auto, unfolding(crate::specs::Reading::eat))]
+    #[tactic(auto, unfolding(pdw_reading::specs::Reading::eat))]
     fn table_after_comma(&self, tokens: &mut Tokens<'_>) -> Result<Option<TableRef>, Stop>
         requires { Nests self.now.depth (F.pre self.now.group) (F.post self.now.group) }
         ensures { Reads (after_comma (spec.table_reference (nested self.now.depth)) tokens.old) result tokens.new }
@@ -207,7 +235,7 @@ impl<F: Fn(Global, &mut Tokens<'_>, usize, Wanted) -> Result<Content, Stop>> Gra
         }
     }
 
-    #[tactic(auto, using(crate::proofs::Turns::turns), unfolding(crate::specs::Reading::many))]
+    #[tactic(auto, using(crate::proofs::Turns::turns), unfolding(pdw_reading::specs::Reading::many))]
     fn tables_after_commas(&self, tokens: &mut Tokens<'_>) -> Result<ListOf<TableRef>, Stop>
         requires { Nests self.now.depth (F.pre self.now.group) (F.post self.now.group) }
         ensures { Reads (many (after_comma (spec.table_reference (nested self.now.depth))) tokens.old) result tokens.new }
@@ -223,13 +251,18 @@ impl<F: Fn(Global, &mut Tokens<'_>, usize, Wanted) -> Result<Content, Stop>> Gra
     }
 
     /// Table references with commas between them.
-    #[tactic(auto, unfolding(crate::specs::ReadTables::tables, crate::specs::ReadExprs::listed))]
+    #[tactic(auto, unfolding(pdw_reading::specs::ReadTables::tables, pdw_reading::specs::ReadExprs::listed))]
     pub fn tables(&self, tokens: &mut Tokens<'_>) -> Result<ListOf<TableRef>, Stop>
         requires { Nests self.now.depth (F.pre self.now.group) (F.post self.now.group) }
         ensures { Reads (spec.tables (nested self.now.depth) tokens.old) result tokens.new }
     {
         let first = self.table_reference(tokens)?;
-        let rest = self.tables_after_commas(tokens)?;
-        Ok(first_and_rest(self.alloc, first, rest)?)
+        match self.tables_after_commas(tokens) {
+            Ok(rest) => Ok(first_and_rest(self.alloc, first, rest)?),
+            Err(stop) => {
+                drop(first);
+                Err(stop)
+            }
+        }
     }
 }

@@ -3,13 +3,13 @@
 ghost use Rattle.std.specs.Prelude.{◌≡◌, length, drop};
 ghost use Rattle.std.specs.Option.{option_copied};
 ghost use Rattle.pdw_syntax.specs.Lexemes.{is_key, is_sign, is_word, name_of, number_of, text_of, same_keyword, same_sign};
-ghost use Rattle.pdw_parse.specs.Tokens.{lexemes};
-ghost use Rattle.pdw_parse.specs.Reading as reading;
-ghost use Rattle.pdw_parse.specs.Reading.{Reads, read, next, sees};
+ghost use Rattle.pdw_reading.specs.Tokens.{lexemes};
+ghost use Rattle.pdw_reading.specs.Reading as reading;
+ghost use Rattle.pdw_reading.specs.Reading.{Reads, read, next, sees};
 
-use crate::parse_error::Stop;
 use pdw_base::Str;
 use pdw_lex::{Keyword, Lexeme, Sign, Token};
+use pdw_reading::Stop;
 use std::alloc::Global;
 use std::marker::Model;
 
@@ -29,7 +29,7 @@ impl<'a> Model for Tokens<'a> {
 
     ghost coded = { coded_list the_row.coded };
 
-    ghost use Rattle.pdw_parse.specs.Tokens.{lexemes};
+    ghost use Rattle.pdw_reading.specs.Tokens.{lexemes};
 
     ghost view = { λ t. lexemes t.left.now };
 }
@@ -137,7 +137,7 @@ impl<'a> Tokens<'a> {
     }
 
     /// Takes the keyword, if it comes next.
-    #[tactic(auto, unfolding(crate::specs::Reading::eat, crate::specs::Reading::take_if))]
+    #[tactic(auto, unfolding(pdw_reading::specs::Reading::eat, pdw_reading::specs::Reading::take_if))]
     pub fn eat_key(&mut self, key: Keyword) -> bool
         ensures { reading.eat (is_key key) self.old ≡ read result self.new }
     {
@@ -149,7 +149,7 @@ impl<'a> Tokens<'a> {
     }
 
     /// Takes the sign, if it comes next.
-    #[tactic(auto, unfolding(crate::specs::Reading::eat, crate::specs::Reading::take_if))]
+    #[tactic(auto, unfolding(pdw_reading::specs::Reading::eat, pdw_reading::specs::Reading::take_if))]
     pub fn eat_sign(&mut self, sign: Sign) -> bool
         ensures { reading.eat (is_sign sign) self.old ≡ read result self.new }
     {
@@ -161,7 +161,7 @@ impl<'a> Tokens<'a> {
     }
 
     /// Takes the word, if it comes next.
-    #[tactic(auto, unfolding(crate::specs::Reading::eat, crate::specs::Reading::take_if))]
+    #[tactic(auto, unfolding(pdw_reading::specs::Reading::eat, pdw_reading::specs::Reading::take_if))]
     pub fn eat_word(&mut self, word: &str) -> bool
         ensures { reading.eat (is_word word.now) self.old ≡ read result self.new }
     {
@@ -173,7 +173,7 @@ impl<'a> Tokens<'a> {
     }
 
     /// Takes the keyword, which has to come next.
-    #[tactic(auto, unfolding(crate::specs::Reading::take))]
+    #[tactic(auto, unfolding(pdw_reading::specs::Reading::take))]
     pub fn take_key(&mut self, key: Keyword) -> Result<(), Stop>
         ensures { Reads (reading.take (is_key key) self.old) result self.new }
     {
@@ -185,7 +185,7 @@ impl<'a> Tokens<'a> {
     }
 
     /// Takes the sign, which has to come next.
-    #[tactic(auto, unfolding(crate::specs::Reading::take))]
+    #[tactic(auto, unfolding(pdw_reading::specs::Reading::take))]
     pub fn take_sign(&mut self, sign: Sign) -> Result<(), Stop>
         ensures { Reads (reading.take (is_sign sign) self.old) result self.new }
     {
@@ -197,7 +197,7 @@ impl<'a> Tokens<'a> {
     }
 
     /// Takes the word, which has to come next.
-    #[tactic(auto, unfolding(crate::specs::Reading::take))]
+    #[tactic(auto, unfolding(pdw_reading::specs::Reading::take))]
     pub fn take_word(&mut self, word: &str) -> Result<(), Stop>
         ensures { Reads (reading.take (is_word word.now) self.old) result self.new }
     {
@@ -209,7 +209,7 @@ impl<'a> Tokens<'a> {
     }
 
     /// Takes a name.
-    #[tactic(auto, unfolding(crate::specs::Reading::take))]
+    #[tactic(auto, unfolding(pdw_reading::specs::Reading::take))]
     pub fn take_name(&mut self, alloc: Global) -> Result<Str, Stop>
         ensures { Reads (reading.take name_of self.old) result self.new }
     {
@@ -223,7 +223,7 @@ impl<'a> Tokens<'a> {
     }
 
     /// Takes a number.
-    #[tactic(auto, unfolding(crate::specs::Reading::take))]
+    #[tactic(auto, unfolding(pdw_reading::specs::Reading::take))]
     pub fn take_number(&mut self) -> Result<i64, Stop>
         ensures { Reads (reading.take number_of self.old) result self.new }
     {
@@ -237,7 +237,7 @@ impl<'a> Tokens<'a> {
     }
 
     /// Takes a text.
-    #[tactic(auto, unfolding(crate::specs::Reading::take))]
+    #[tactic(auto, unfolding(pdw_reading::specs::Reading::take))]
     pub fn take_text(&mut self, alloc: Global) -> Result<Str, Stop>
         ensures { Reads (reading.take text_of self.old) result self.new }
     {

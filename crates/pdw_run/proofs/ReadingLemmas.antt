@@ -6,13 +6,13 @@ use Rattle.pdw_lex.specs.declared.lex_error.LexError.{LexError}
 use Rattle.pdw_lex.specs.declared.lex_error.LexError.TheVariants as lex
 use Rattle.pdw_lex.specs.declared.token.Token.{Token}
 use Rattle.pdw_lex.proofs.UniqueLemmas.{fault-unique, tokens-faultless, tokens-unique}
-use Rattle.pdw_parse.specs.Fault.{IsFault as IsParseFault}
-use Rattle.pdw_parse.specs.Spells.{Spells}
-use Rattle.pdw_parse.specs.Tokens.{lexemes}
-use Rattle.pdw_parse.specs.declared.parse_error.ParseError.{ParseError}
-use Rattle.pdw_parse.specs.declared.parse_error.ParseError.TheVariants as parse
-use Rattle.pdw_parse.proofs.FaultLemmas.{no_fault, one_fault}
-use Rattle.pdw_parse.proofs.PlaceLaws.{one_meaning}
+use Rattle.pdw_reading.specs.Fault.{IsFault as IsParseFault}
+use Rattle.pdw_reading.specs.Spells.{Spells}
+use Rattle.pdw_reading.specs.Tokens.{lexemes}
+use Rattle.pdw_reading.specs.declared.parse_error.ParseError.{ParseError}
+use Rattle.pdw_reading.specs.declared.parse_error.ParseError.TheVariants as parse
+use Rattle.pdw_reading.proofs.FaultLemmas.{no_fault, one_fault}
+use Rattle.pdw_reading.proofs.PlaceLaws.{one_meaning}
 use Rattle.pdw_run.specs.Reading.{HasFault, IsScript, IsTextFault, script_line}
 use Rattle.pdw_run.specs.Refusal.{lex_line, parse_line}
 use Rattle.pdw_run.specs.declared.reading.ScriptError.{ScriptError}

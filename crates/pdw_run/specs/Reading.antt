@@ -5,10 +5,10 @@ use Rattle.pdw_syntax.specs.declared.statement.Statement.{Statement}
 use Rattle.pdw_lex.specs.Lexes.{Lexes}
 use Rattle.pdw_lex.specs.Fault.{IsFault as IsLexFault}
 use Rattle.pdw_lex.specs.declared.token.Token.{Token}
-use Rattle.pdw_parse.specs.Fault.{IsFault as IsParseFault}
-use Rattle.pdw_parse.specs.Spells.{Spells}
-use Rattle.pdw_parse.specs.Tokens.{lexemes}
-use Rattle.pdw_parse.specs.declared.parse_error.ParseError.{ParseError}
+use Rattle.pdw_reading.specs.Fault.{IsFault as IsParseFault}
+use Rattle.pdw_reading.specs.Spells.{Spells}
+use Rattle.pdw_reading.specs.Tokens.{lexemes}
+use Rattle.pdw_reading.specs.declared.parse_error.ParseError.{ParseError}
 use Rattle.pdw_run.specs.Refusal.{lex_line, parse_line}
 use Rattle.pdw_run.specs.declared.reading.ScriptError.{ScriptError}
 use Rattle.pdw_run.specs.declared.reading.ScriptError.TheVariants.{Tokens, Statements}

@@ -4,8 +4,8 @@ use Rattle.std.specs.Fmt.{decimal, signed_decimal}
 use Rattle.pdw_engine.specs.declared.session.TheConstants.{MOST_FILE_BYTES}
 use Rattle.pdw_lex.specs.declared.lex_error.LexError.{LexError}
 use Rattle.pdw_lex.specs.declared.lex_error.LexError.TheVariants as lex
-use Rattle.pdw_parse.specs.declared.parse_error.ParseError.{ParseError}
-use Rattle.pdw_parse.specs.declared.parse_error.ParseError.TheVariants as parse
+use Rattle.pdw_reading.specs.declared.parse_error.ParseError.{ParseError}
+use Rattle.pdw_reading.specs.declared.parse_error.ParseError.TheVariants as parse
 use Rattle.pdw_load.specs.declared.load_error.LoadError.{LoadError}
 use Rattle.pdw_load.specs.declared.load_error.LoadError.TheVariants.{FieldCount, BadInt, LongText, NullField, NotUtf8, Memory}
 use Rattle.pdw_walk.specs.declared.fault.JudgeFault.{JudgeFault}

@@ -1,9 +1,11 @@
+//! Value expressions.
+
 use pdw_base::Str;
 use pdw_expr::{AggKind, Arith};
 use sqlite_items::{Boxed, Items as ListOf};
 
 /// A column by its name, with the alias of its table where that is written: SQL-92, 6.4.
-#[derive(Debug, Drop)]
+#[derive(Drop)]
 pub struct ColRef {
     pub alias: Option<Str>,
     pub column: Str,

@@ -1,3 +1,5 @@
+//! Queries and their parts.
+
 use crate::{ColRef, SqlExpr};
 use pdw_base::{Str, Truth};
 use pdw_expr::Cmp;
@@ -12,14 +14,14 @@ pub struct Select {
 }
 
 /// A key of ORDER BY.
-#[derive(Debug, Drop)]
+#[derive(Drop)]
 pub struct OrderKey {
     pub name: OrderName,
     pub descending: bool,
 }
 
 /// An output column, by its name or by its position from 1.
-#[derive(Debug, Drop)]
+#[derive(Drop)]
 pub enum OrderName {
     Name(Str),
     Position(i64),
@@ -55,7 +57,7 @@ pub enum Item {
 }
 
 /// The kind of a join.
-#[derive(Clone, Copy, Debug, PartialEq, Eq)]
+#[derive(Clone, Copy, PartialEq, Eq)]
 pub enum JoinWord {
     Cross,
     Inner,

@@ -1,3 +1,5 @@
+//! Statements.
+
 use crate::Select;
 use pdw_base::Str;
 use pdw_catalog::Column;
@@ -41,7 +43,7 @@ pub enum Statement {
 }
 
 /// A constant of the cost of moving rows.
-#[derive(Clone, Copy, Debug, PartialEq, Eq)]
+#[derive(Clone, Copy, PartialEq, Eq)]
 pub enum CostPart {
     Reader,
     HashReader,

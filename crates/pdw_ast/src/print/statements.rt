@@ -178,6 +178,54 @@ fn print_hand(
     Ok(())
 }
 
+// DROP TABLE
+fn print_drop(words: &mut Words, table: &Str) -> Result<(), NoMemory>
+    ensures { OnOk result (words.new ≡ puts words.old (spec.statement (is.Drop table.now))) }
+{
+    words.push_key(Keyword::KwDrop)?;
+    words.push_key(Keyword::KwTable)?;
+    words.push(table.text())
+}
+
+fn print_load(words: &mut Words, table: &Str, file: &Str) -> Result<(), NoMemory>
+    ensures { OnOk result (words.new ≡ puts words.old (spec.statement (is.Load table.now file.now))) }
+{
+    words.push("LOAD")?;
+    words.push(table.text())?;
+    words.push_key(Keyword::KwFrom)?;
+    words.push_text(file)
+}
+
+// SET COST
+fn print_cost(words: &mut Words, part: CostPart, amount: i64) -> Result<(), NoMemory>
+    ensures { OnOk result (words.new ≡ puts words.old (spec.statement (is.Cost part amount))) }
+{
+    words.push_key(Keyword::KwSet)?;
+    words.push("COST")?;
+    words.push(cost_word(part))?;
+    words.push_number(amount)
+}
+
+// EXPLAIN JSON
+fn print_explain_json(words: &mut Words, select: &Select) -> Result<(), NoMemory>
+    ensures { OnOk result (words.new ≡ puts words.old (spec.statement (is.ExplainJson select.now))) }
+{
+    words.push("EXPLAIN")?;
+    words.push("JSON")?;
+    print_select(words, select)
+}
+
+// CHECK PLAN
+fn print_check_plan(words: &mut Words, file: &Str, select: &Select) -> Result<(), NoMemory>
+    ensures { OnOk result (words.new ≡ puts words.old (spec.statement (is.CheckPlan file.now select.now))) }
+{
+    words.push("CHECK")?;
+    words.push("PLAN")?;
+    words.push_text(file)?;
+    words.push("FOR")?;
+    print_select(words, select)
+}
+
 fn print(words: &mut Words, statement: &Statement) -> Result<(), NoMemory>
     ensures { OnOk result (words.new ≡ puts words.old (spec.statement statement.now)) }
 {
@@ -187,17 +235,8 @@ fn print(words: &mut Words, statement: &Statement) -> Result<(), NoMemory>
             columns,
             hash,
         } => print_create(words, table, columns.as_slice(), hash),
-        Statement::Drop(table) => {
-            words.push_key(Keyword::KwDrop)?;
-            words.push_key(Keyword::KwTable)?;
-            words.push(table.text())
-        }
-        Statement::Load { table, file } => {
-            words.push("LOAD")?;
-            words.push(table.text())?;
-            words.push_key(Keyword::KwFrom)?;
-            words.push_text(file)
-        }
+        Statement::Drop(table) => print_drop(words, table),
+        Statement::Load { table, file } => print_load(words, table, file),
         Statement::Measure(table) => {
             words.push_key(Keyword::KwUpdate)?;
             words.push("STATISTICS")?;
@@ -209,33 +248,18 @@ fn print(words: &mut Words, statement: &Statement) -> Result<(), NoMemory>
             words.push("BUDGET")?;
             words.push_number(*amount)
         }
-        Statement::Cost { part, amount } => {
-            words.push_key(Keyword::KwSet)?;
-            words.push("COST")?;
-            words.push(cost_word(*part))?;
-            words.push_number(*amount)
-        }
+        Statement::Cost { part, amount } => print_cost(words, *part, *amount),
         Statement::Select(select) => print_select(words, select),
         Statement::Explain(select) => {
             words.push("EXPLAIN")?;
             print_select(words, select)
         }
-        Statement::ExplainJson(select) => {
-            words.push("EXPLAIN")?;
-            words.push("JSON")?;
-            print_select(words, select)
-        }
+        Statement::ExplainJson(select) => print_explain_json(words, select),
         Statement::Profile(select) => {
             words.push("PROFILE")?;
             print_select(words, select)
         }
-        Statement::CheckPlan { file, select } => {
-            words.push("CHECK")?;
-            words.push("PLAN")?;
-            words.push_text(file)?;
-            words.push("FOR")?;
-            print_select(words, select)
-        }
+        Statement::CheckPlan { file, select } => print_check_plan(words, file, select),
     }
 }
 

@@ -2,7 +2,7 @@ use Rattle.std.proofs.Common.{◌≡◌, ◌<◌, true, rules, sym, ◌∙◌, a
 use Rattle.std.proofs.lemmas.Grind.{common_steps}
 use Rattle.pdw_lex.specs.declared.sign.Sign.TheVariants.{ParenOpen}
 use Rattle.pdw_syntax.specs.Lexemes.{is_sign}
-use Rattle.pdw_parse.specs.Reading.{sees}
+use Rattle.pdw_reading.specs.Reading.{sees}
 use Rattle.pdw_parse.proofs.GroupReads.{no_parenthesis, one_too_many, stops_inside, stops_after, closes}
 use Rattle.pdw_parse.proofs.groups.+group.Goals as goal
 

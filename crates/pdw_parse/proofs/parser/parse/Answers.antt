@@ -1,7 +1,7 @@
 use Rattle.std.proofs.Common.{◌≢◌, rules}
-use Rattle.pdw_parse.specs.Tokens.{lexemes}
-use Rattle.pdw_parse.specs.declared.parse_error.Stop.TheVariants.{Syntax, TooDeep, Memory}
-use Rattle.pdw_parse.proofs.FaultLemmas.{spells, syntax_fits, syntax_stands, depth_fits, depth_stands}
+use Rattle.pdw_reading.specs.Tokens.{lexemes}
+use Rattle.pdw_reading.specs.declared.parse_error.Stop.TheVariants.{Syntax, TooDeep, Memory}
+use Rattle.pdw_reading.proofs.FaultLemmas.{spells, syntax_fits, syntax_stands, depth_fits, depth_stands}
 use Rattle.pdw_parse.proofs.parser.parse.Goals as goal
 
 not_syntax : Syntax ≢ Memory

@@ -1,5 +1,5 @@
-use Rattle.pdw_parse.specs.ReadExprs.{after_comma, column_reference}
-use Rattle.pdw_parse.specs.Reading.{many}
+use Rattle.pdw_reading.specs.ReadExprs.{after_comma, column_reference}
+use Rattle.pdw_reading.specs.Reading.{many}
 use Rattle.pdw_parse.proofs.Turns.{Left}
 use Rattle.pdw_parse.proofs.queries.columns_after_commas.Given as goal
 

@@ -1,6 +1,6 @@
-use Rattle.pdw_parse.specs.ReadExprs.{after_comma}
-use Rattle.pdw_parse.specs.ReadQueries.{order_key}
-use Rattle.pdw_parse.specs.Reading.{many}
+use Rattle.pdw_reading.specs.ReadExprs.{after_comma}
+use Rattle.pdw_reading.specs.ReadQueries.{order_key}
+use Rattle.pdw_reading.specs.Reading.{many}
 use Rattle.pdw_parse.proofs.Turns.{Left}
 use Rattle.pdw_parse.proofs.queries.keys_after_commas.Given as goal
 

@@ -1,6 +1,6 @@
-use Rattle.pdw_parse.specs.ReadExprs.{after_comma}
-use Rattle.pdw_parse.specs.ReadStatements.{column_statistics}
-use Rattle.pdw_parse.specs.Reading.{many}
+use Rattle.pdw_reading.specs.ReadExprs.{after_comma}
+use Rattle.pdw_reading.specs.ReadStatements.{column_statistics}
+use Rattle.pdw_reading.specs.Reading.{many}
 use Rattle.pdw_parse.proofs.Turns.{Left}
 use Rattle.pdw_parse.proofs.statements.statistics_after_commas.Given as goal
 

@@ -3,8 +3,8 @@ use Rattle.pdw_lex.specs.declared.keyword.Keyword.TheVariants.{KwOuter}
 use Rattle.pdw_lex.specs.declared.token.Lexeme.{Lexeme}
 use Rattle.pdw_syntax.specs.Lexemes.{is_key, outer_of}
 use Rattle.pdw_syntax.specs.declared.query.JoinWord.{JoinWord}
-use Rattle.pdw_parse.specs.ReadTables.{outer_by}
-use Rattle.pdw_parse.specs.Reading.{and_then, eat, meaning_of, pure, read}
+use Rattle.pdw_reading.specs.ReadTables.{outer_by}
+use Rattle.pdw_reading.specs.Reading.{and_then, eat, meaning_of, pure, read}
 use Rattle.pdw_parse.proofs.tables.outer_word.Goals as goal
 
 side_reads : (o : Option JoinWord) (side : JoinWord) (ts after rest : List Lexeme) (outer : Bool) → o ≡ Some side → after ≡ drop 1 ts

@@ -1,6 +1,6 @@
-use Rattle.pdw_parse.specs.Levels.{nested}
-use Rattle.pdw_parse.specs.ReadExprs.{after_comma, expr}
-use Rattle.pdw_parse.specs.Reading.{many}
+use Rattle.pdw_reading.specs.Levels.{nested}
+use Rattle.pdw_reading.specs.ReadExprs.{after_comma, expr}
+use Rattle.pdw_reading.specs.Reading.{many}
 use Rattle.pdw_parse.proofs.Turns.{Left}
 use Rattle.pdw_parse.proofs.grammar.Grammar.exprs_after_commas.Given as goal
 

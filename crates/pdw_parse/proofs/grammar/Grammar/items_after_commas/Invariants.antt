@@ -1,7 +1,7 @@
-use Rattle.pdw_parse.specs.Levels.{nested}
-use Rattle.pdw_parse.specs.ReadExprs.{after_comma}
-use Rattle.pdw_parse.specs.ReadQueries.{item}
-use Rattle.pdw_parse.specs.Reading.{many}
+use Rattle.pdw_reading.specs.Levels.{nested}
+use Rattle.pdw_reading.specs.ReadExprs.{after_comma}
+use Rattle.pdw_reading.specs.ReadQueries.{item}
+use Rattle.pdw_reading.specs.Reading.{many}
 use Rattle.pdw_parse.proofs.Turns.{Left}
 use Rattle.pdw_parse.proofs.grammar.Grammar.items_after_commas.Given as goal
 

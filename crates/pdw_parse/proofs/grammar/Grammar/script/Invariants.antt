@@ -1,6 +1,6 @@
-use Rattle.pdw_parse.specs.Levels.{nested}
-use Rattle.pdw_parse.specs.ReadStatements.{next_statement}
-use Rattle.pdw_parse.specs.Reading.{many}
+use Rattle.pdw_reading.specs.Levels.{nested}
+use Rattle.pdw_reading.specs.ReadStatements.{next_statement}
+use Rattle.pdw_reading.specs.Reading.{many}
 use Rattle.pdw_parse.proofs.Turns.{Left}
 use Rattle.pdw_parse.proofs.grammar.Grammar.script.Given as goal
 

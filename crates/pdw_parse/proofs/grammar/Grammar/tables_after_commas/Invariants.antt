@@ -1,7 +1,7 @@
-use Rattle.pdw_parse.specs.Levels.{nested}
-use Rattle.pdw_parse.specs.ReadExprs.{after_comma}
-use Rattle.pdw_parse.specs.ReadTables.{table_reference}
-use Rattle.pdw_parse.specs.Reading.{many}
+use Rattle.pdw_reading.specs.Levels.{nested}
+use Rattle.pdw_reading.specs.ReadExprs.{after_comma}
+use Rattle.pdw_reading.specs.ReadTables.{table_reference}
+use Rattle.pdw_reading.specs.Reading.{many}
 use Rattle.pdw_parse.proofs.Turns.{Left}
 use Rattle.pdw_parse.proofs.grammar.Grammar.tables_after_commas.Given as goal
 

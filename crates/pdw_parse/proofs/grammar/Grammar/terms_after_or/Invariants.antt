@@ -1,9 +1,9 @@
 use Rattle.pdw_lex.specs.declared.keyword.Keyword.TheVariants.{KwOr}
 use Rattle.pdw_syntax.specs.Lexemes.{is_key}
-use Rattle.pdw_parse.specs.Levels.{nested}
-use Rattle.pdw_parse.specs.ReadConds.{term}
-use Rattle.pdw_parse.specs.Reading.{begun_by}
-use Rattle.pdw_parse.specs.Reading.{many}
+use Rattle.pdw_reading.specs.Levels.{nested}
+use Rattle.pdw_reading.specs.ReadConds.{term}
+use Rattle.pdw_reading.specs.Reading.{begun_by}
+use Rattle.pdw_reading.specs.Reading.{many}
 use Rattle.pdw_parse.proofs.Turns.{Left}
 use Rattle.pdw_parse.proofs.grammar.Grammar.terms_after_or.Given as goal
 

@@ -1,5 +1,0 @@
-use Rattle.pdw_parse.proofs.FaultLemmas.{one_fault}
-use Rattle.pdw_parse.proofs.laws.a_fault_is_unique.Goals as goal
-
-pub returns : goal.returns
-returns c = one_fault
