@@ -10,4 +10,3 @@ mod types;
 pub use local::LocalTree;
 pub use schema::schema_of;
 pub use tree::{MOST_LEAVES, Tree};
-

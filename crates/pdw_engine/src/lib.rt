@@ -23,4 +23,3 @@ pub use answer::{Answer, Table1};
 pub use prepared::{Prepared, Want};
 pub use refusal::{Refusal, Stop};
 pub use session::{MOST_FILE_BYTES, Session};
-

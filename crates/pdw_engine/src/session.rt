@@ -22,11 +22,11 @@ use crate::refusal::{Refusal, Stop};
 use crate::select::select;
 use pdw_base::{NoMemory, NodeCount, Str};
 use pdw_catalog::{Appliance, Table};
-use pdw_load::{LoadError, read_table};
 use pdw_form::{Judged, JudgedSelect};
+use pdw_load::{LoadError, read_table};
 use pdw_scope::judge;
-use pdw_walk::JudgeFault;
 use pdw_syntax::Statement;
+use pdw_walk::JudgeFault;
 use std::alloc::Global;
 use std::marker::Model;
 

@@ -12,6 +12,6 @@ mod spellings;
 #[cfg(test)]
 mod statements;
 #[cfg(test)]
-mod trees;
-#[cfg(test)]
 mod tokens;
+#[cfg(test)]
+mod trees;

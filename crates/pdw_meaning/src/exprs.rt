@@ -5,11 +5,11 @@ ghost use Rattle.std.specs.Option.{option_map};
 ghost use Rattle.pdw_semantics.specs.Environment.{alone, group_of};
 ghost use Rattle.pdw_semantics.specs.Exprs as spec;
 
-use pdw_expr::aggregated;
 use crate::environment::looked_up;
 use crate::scope::Scope;
 use crate::values::{computed_value, signed};
 use pdw_base::{NoMemory, Value};
+use pdw_expr::aggregated;
 use pdw_syntax::SqlExpr;
 use sqlite_items::{Boxed, Items as ListOf};
 use std::alloc::Global;

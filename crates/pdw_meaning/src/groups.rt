@@ -7,9 +7,9 @@ ghost use Rattle.pdw_semantics.specs.Environment.{group_of};
 ghost use Rattle.pdw_semantics.specs.Queries as spec;
 
 use crate::environment::looked_up;
-use pdw_expr::{each_once, is_same_row};
 use crate::scope::{Scope, copy_scope, copy_scopes};
 use pdw_base::{NoMemory, Row};
+use pdw_expr::{each_once, is_same_row};
 use pdw_syntax::ColRef;
 use sqlite_items::Items as ListOf;
 use std::alloc::Global;

@@ -2,13 +2,13 @@
 #![tactic(auto)]
 
 mod answer;
+mod distinct;
 mod elements;
 mod environment;
 mod exprs;
 mod groups;
 mod items;
 mod joins;
-mod distinct;
 mod queries;
 mod scope;
 mod truths;

@@ -5,9 +5,9 @@ ghost use Rattle.pdw_walk.specs.Statements as spec;
 ghost use Rattle.pdw_walk.specs.Walk.{Walks, beginning};
 ghost use Rattle.pdw_walk.specs.declared.fault.JudgeFault.TheVariants.{Memory};
 
-use pdw_walk::JudgeFault;
 use pdw_base::Str;
 use pdw_catalog::Column;
+use pdw_walk::JudgeFault;
 use std::alloc::Global;
 
 /// A place in 32 bits. A list with more places is taken to be more than memory holds.

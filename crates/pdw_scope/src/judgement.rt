@@ -6,13 +6,13 @@ ghost use Rattle.pdw_walk.specs.Walk.{beginning};
 ghost use Rattle.pdw_form.specs.declared.judged.Judged.TheVariants as judged;
 
 use crate::create::create;
-use pdw_walk::JudgeFault;
-use pdw_form::Judged;
 use crate::select::judge_select;
 use crate::settings::{budget_setting, cost_setting, hand};
 use pdw_base::Str;
 use pdw_catalog::Catalog;
+use pdw_form::Judged;
 use pdw_syntax::{Select, Statement};
+use pdw_walk::JudgeFault;
 use std::alloc::Global;
 use std::mem::drop;
 

@@ -2,13 +2,13 @@
 
 use super::numbered;
 use super::queries::tables_of;
-use pdw_run::read_script;
 use pdw_catalog::Appliance;
 use pdw_engine::Session;
 use pdw_form::Judged;
+use pdw_run::read_script;
 use pdw_scope::judge;
-use pdw_walk::JudgeFault;
 use pdw_syntax::Statement;
+use pdw_walk::JudgeFault;
 use std::alloc::{AllocError, Global};
 use std::process::Abort;
 use std::test::Fail;

@@ -5,8 +5,8 @@ use pdw_base::{ColId, Str, Truth, Value};
 use pdw_catalog::{Placing, Table};
 use pdw_expr::{Agg, AggKind, Arith, Cmp, Cond, Scalar};
 use pdw_form::{JFrom, JGroup, JItem, JSub, Judged, JudgedQuery, JudgedSelect};
-use pdw_walk::{JudgeFault, LimitName};
 use pdw_syntax::{CostPart, JoinWord};
+use pdw_walk::{JudgeFault, LimitName};
 use std::alloc::AllocError;
 
 fn arith(operator: Arith) -> &'static str {

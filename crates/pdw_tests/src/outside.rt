@@ -1,9 +1,9 @@
+use super::{PRINTED, SCRIPT, TABLE, entries, text_of, words_of};
 use pdw_outside::{Files, HonestFiles, HonestSink, MemFiles, MemSink, Sink};
 use pdw_run::{Status, run};
 use std::alloc::Global;
 use std::process::Abort;
 use std::test::Fail;
-use super::{PRINTED, SCRIPT, TABLE, entries, text_of, words_of};
 
 // How a run of the script at one node ends.
 fn ended<F: Files, S: Sink>(alloc: Global, files: &mut F, out: &mut S) -> Result<Status, Fail> {

@@ -1,13 +1,13 @@
 //! SELECTs through the whole program, over several numbers of nodes.
 
+use super::queries::{ROWS, TABLES, files, shown};
+use super::{assert_outcome, text_of, words_of};
 use pdw_outside::HonestSink;
 use pdw_run::{Status, run};
 use std::alloc::{AllocError, Global};
 use std::process::Abort;
 use std::str;
 use std::test::Fail;
-use super::queries::{ROWS, TABLES, files, shown};
-use super::{assert_outcome, text_of, words_of};
 
 // A SELECT on each line, and its rows in their order.
 const ORDERED: &str = "\

@@ -4,6 +4,7 @@ ghost use Rattle.std.specs.Prelude.{◌≡◌, true};
 ghost use Rattle.std.specs.List.{list_all};
 ghost use Rattle.pdw_syntax.specs.Written.{statement_written};
 
+use super::text_of;
 use pdw_base::{NodeCount, Str};
 use pdw_catalog::Appliance;
 use pdw_engine::Session;
@@ -14,7 +15,6 @@ use pdw_syntax::Statement;
 use std::alloc::Global;
 use std::str;
 use std::test::Fail;
-use super::text_of;
 
 /// Tables and the records that are loaded into them.
 pub const TABLES: &str = "\

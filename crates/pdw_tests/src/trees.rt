@@ -2,13 +2,13 @@
 
 use super::numbered::{aggregates, column, conds, keys, scalar, table};
 use super::queries::tables_of;
-use pdw_run::read_script;
 use pdw_algebra::Tree;
 use pdw_base::ColId;
 use pdw_bind::bind;
 use pdw_catalog::Appliance;
 use pdw_expr::{Agg, Cond, JoinKind, Scalar};
 use pdw_form::Judged;
+use pdw_run::read_script;
 use pdw_scope::judge;
 use std::alloc::{AllocError, Global};
 use std::test::Fail;

@@ -1,8 +1,8 @@
 //! What a walk keeps of the columns that it meets.
 
-use pdw_form::{JItem, JSub, JudgedQuery};
 use pdw_base::{ColId, Kind, Str};
 use pdw_expr::{Cond, Scalar};
+use pdw_form::{JItem, JSub, JudgedQuery};
 use pdw_syntax::JoinWord;
 use sqlite_items::{Boxed, Items as ListOf};
 
