@@ -1,2 +1,4 @@
+-- Reading on behind what was taken
 pub mod WholeLemmas
+-- Writing on behind what was written
 pub mod SinkLemmas

@@ -1,5 +1,5 @@
 -- The lawful outputs of a script.
-use Rattle.std.specs.Prelude.{◌≡◌, ◌⊎◌, ⊤, ℕ, ◌+◌, ◌≤◌, ◌<◌, List, [], ◌∷◌, ◌++◌, length, codes, Option, Some, None}
+use Rattle.std.specs.Prelude.{◌≡◌, ◌⊎◌, ⊤, ℕ, ◌+◌, ◌≤◌, ◌<◌, List, [], ◌∷◌, ◌++◌, length, codes, Option, Some, None, IsSome}
 use Rattle.pdw_syntax.specs.declared.statement.Statement.{Statement}
 use Rattle.pdw_engine.specs.Executes.{Gives as Answered, RefusesWork}
 use Rattle.pdw_engine.specs.Plain.{Plain, start}
@@ -170,7 +170,17 @@ MeetsNoFault held before after words =
     (nodes : ℕ) (script : List ℕ) → AskRun words nodes script
     → ((out : Trace) → ¬ (Outputs held nodes script Refused out)) × ((file : List ℕ) → MayStopAt held nodes script file → ¬ (Rose (before file) (after file)))
 
+-- the words ask for a run that can only be refused: no lawful output is finished, and no file at which one may stop failed
+abbrev pub IsRefusedOnly : Held → (List ℕ → ℕ) → (List ℕ → ℕ) → List (List ℕ) → Type 0
+IsRefusedOnly held before after words =
+    (nodes : ℕ) (script : List ℕ) → AskRun words nodes script
+    → ((out : Trace) → ¬ (Outputs held nodes script Finished out)) × ((file : List ℕ) → MayStopAt held nodes script file → ¬ (Rose (before file) (after file)))
+
 -- ---- laws
+
+-- the files tell the bytes of each name
+abbrev pub TellsAll : Held → Type 0
+TellsAll held = (name : List ℕ) → IsSome (held name)
 
 -- the output is whole: every statement was executed, or the line of a refusal ends it
 abbrev pub IsWhole : End → Type 0

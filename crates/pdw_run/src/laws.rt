@@ -2,7 +2,7 @@
 
 ghost use Rattle.std.specs.Prelude.{◌≡◌, ℕ, List};
 ghost use Rattle.pdw_syntax.specs.declared.statement.Statement.{Statement as StatementOf};
-ghost use Rattle.pdw_run.specs.Output.{BeginsOutput, Cut, Held, Outputs};
+ghost use Rattle.pdw_run.specs.Output.{BeginsOutput, Cut, Finished, Held, Outputs, Refused, TellsAll};
 ghost use Rattle.pdw_run.specs.Reading.{IsScript, IsTextFault};
 ghost use Rattle.pdw_run.specs.Trace.{Trace};
 
@@ -16,4 +16,9 @@ pub fn a_script_says_one_thing()
 /// What a failing sink cut is the beginning of a whole lawful output.
 pub fn a_cut_output_begins_a_whole_one()
     ensures { (held : Held) (nodes : ℕ) (script : List ℕ) (out : Trace) → Outputs held nodes script Cut out → BeginsOutput held nodes script out.text }
+{}
+
+/// Over files that tell every name, no script has both a finished output and one that ends with a refusal.
+pub fn a_script_is_done_or_refused()
+    ensures { (held : Held) (nodes : ℕ) (script : List ℕ) (one two : Trace) → TellsAll held → Outputs held nodes script Finished one → ¬ (Outputs held nodes script Refused two) }
 {}

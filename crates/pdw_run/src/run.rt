@@ -5,7 +5,7 @@ ghost use Rattle.std.specs.List.{list_all};
 ghost use Rattle.pdw_syntax.specs.Written.{statement_written};
 ghost use Rattle.pdw_outside.specs.Faults.{Rose};
 ghost use Rattle.pdw_outside.specs.Sink.{Adds};
-ghost use Rattle.pdw_run.specs.Output.{CountsWriting, Lawful, MeetsNoFault, Outputs, SameReading, ScriptWrites, Writes};
+ghost use Rattle.pdw_run.specs.Output.{CountsWriting, IsRefusedOnly, Lawful, MeetsNoFault, Outputs, SameReading, ScriptWrites, Writes};
 ghost use Rattle.pdw_engine.specs.Plain.{start};
 ghost use Rattle.pdw_run.specs.Run.{EndsBy};
 ghost use Rattle.pdw_run.specs.Trace.{Trace};
@@ -99,6 +99,9 @@ pub fn run<F: Files, S: Sink>(alloc: Global, words: &[Str], files: &mut F, out: 
 
     // Where nothing is at fault and no stream fails, every statement is executed, or memory is wanted.
     ensures completes { ¬ (HaveNoForm words.now) → MeetsNoFault (F.bytes files.old) (F.faults files.old) (F.faults files.new) words.now → ¬ (Rose (S.faults out.old) (S.faults out.new)) → (result ≡ status.Done) ⊎ (result ≡ status.Memory) }
+
+    // Where every lawful output ends with a refusal and no stream fails, the run is refused, or memory is wanted.
+    ensures refuses { ¬ (HaveNoForm words.now) → IsRefusedOnly (F.bytes files.old) (F.faults files.old) (F.faults files.new) words.now → ¬ (Rose (S.faults out.old) (S.faults out.new)) → (result ≡ status.Refused) ⊎ (result ≡ status.Memory) }
 
     ensures reading { SameReading result (F.faults files.old) (F.faults files.new) }
     ensures writing { CountsWriting result (S.faults out.old) (S.faults out.new) }
