@@ -12,7 +12,7 @@ use Rattle.pdw_expr.specs.Columns.{cond_columns}
 use Rattle.pdw_expr.specs.Rows.{meets}
 use Rattle.pdw_expr.specs.declared.cond.Cond.{Cond}
 use Rattle.pdw_parts.proofs.ChosenLaws.{has-either}
-use Rattle.pdw_parts.specs.Part.{Leaf, LeafSet, between, columns_in, either, inside, is_between, is_inside}
+use Rattle.pdw_parts.specs.Part.{LeafSet, between, columns_in, either, inside, is_between, is_inside}
 
 -- ---- tests over filtered lists
 
@@ -73,7 +73,7 @@ or_right : (a b : Bool) → b ≡ true → (a || b) ≡ true
 or_right true b is = refl
 or_right false b is = is
 
-module _ (left right : LeafSet) (leaves : List Leaf) (x : Cond) where
+module _ (left right : LeafSet) (leaves : List Columns) (x : Cond) where
   inside-left : is_inside (columns_in left leaves) x ≡ true → is_inside (columns_in (either left right) leaves) x ≡ true
   inside-left = all-more (λ c. has_number c (columns_in left leaves)) (λ c. has_number c (columns_in (either left right) leaves))
       (λ c there. has-either c left right leaves ∙ or_left (has_number c (columns_in left leaves)) (has_number c (columns_in right leaves)) there) (cond_columns x)
@@ -98,7 +98,7 @@ places false true true true left right = refl
 places false true true false left right = refl
 places false false true m left right = refl
 
-module _ (left right : LeafSet) (leaves : List Leaf) (row : Env) where
+module _ (left right : LeafSet) (leaves : List Columns) (row : Env) where
   abbrev met : Cond → Bool
   met = is_met row
 

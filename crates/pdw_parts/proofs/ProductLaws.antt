@@ -12,7 +12,7 @@ use Rattle.pdw_expr.specs.Env.{union}
 use Rattle.pdw_expr.specs.Join.{crossed}
 use Rattle.pdw_expr.specs.Rows.{products}
 use Rattle.pdw_parts.proofs.ChosenLaws.{are_apart-from, first-apart, later, later-apart}
-use Rattle.pdw_parts.specs.Part.{AreDisjoint, Leaf, LeafSet, chosen, columns_in, either}
+use Rattle.pdw_parts.specs.Part.{AreDisjoint, Leaf, LeafSet, chosen, columns_in, either, leaf_columns, leaf_rows}
 
 -- ---- crossed rows
 
@@ -51,58 +51,52 @@ module _ (left right : Columns) (apart : are_apart left right ≡ true) where
 abbrev pub AllLeaves : List Leaf → Type 0
 AllLeaves leaves = AllByRecursion (λ leaf. AllWithin leaf.columns leaf.rows) leaves
 
-abbrev pub product_of : List Leaf → List Env
-product_of leaves = products (map (λ leaf. leaf.rows) leaves)
-
-pub product-cons : (leaf : Leaf) (leaves : List Leaf) → product_of (leaf ∷ leaves) ≡ crossed union leaf.rows (product_of leaves)
-product-cons leaf leaves = products-cons leaf.rows (map (λ leaf. leaf.rows) leaves)
-
-pub within-product : (set : LeafSet) (leaves : List Leaf) → AllLeaves leaves → AllWithin (columns_in set leaves) (product_of (chosen set leaves))
-within-product set [] all = (record { elsewhere = λ c absent. refl }, tt)
-within-product set (leaf ∷ leaves) all = by (set 0) (within-product (later set) leaves all.1)
+pub within-products : (set : LeafSet) (leaves : List Leaf) → AllLeaves leaves → AllWithin (columns_in set (leaf_columns leaves)) (products (chosen set (leaf_rows leaves)))
+within-products set [] all = (record { elsewhere = λ c absent. refl }, tt)
+within-products set (leaf ∷ leaves) all = by (set 0) (within-products (later set) leaves all.1)
   where
-    by : (b : Bool) → AllWithin (columns_in (later set) leaves) (product_of (chosen (later set) leaves))
-        → AllWithin (flat_map (λ (leaf : Leaf). leaf.columns) (if b then leaf ∷ chosen (later set) leaves else chosen (later set) leaves))
-        (product_of (if b then leaf ∷ chosen (later set) leaves else chosen (later set) leaves))
-    by true rest = subst (AllWithin (leaf.columns ++ columns_in (later set) leaves)) (sym (product-cons leaf (chosen (later set) leaves)))
-        (within-crossed leaf.columns (columns_in (later set) leaves) leaf.rows (product_of (chosen (later set) leaves)) all.0 rest)
+    by : (b : Bool) → AllWithin (columns_in (later set) (leaf_columns leaves)) (products (chosen (later set) (leaf_rows leaves)))
+        → AllWithin (flat_map (λ columns. columns) (if b then leaf.columns ∷ chosen (later set) (leaf_columns leaves) else chosen (later set) (leaf_columns leaves)))
+        (products (if b then leaf.rows ∷ chosen (later set) (leaf_rows leaves) else chosen (later set) (leaf_rows leaves)))
+    by true rest = subst (AllWithin (leaf.columns ++ columns_in (later set) (leaf_columns leaves))) (sym (products-cons leaf.rows (chosen (later set) (leaf_rows leaves))))
+        (within-crossed leaf.columns (columns_in (later set) (leaf_columns leaves)) leaf.rows (products (chosen (later set) (leaf_rows leaves))) all.0 rest)
     by false rest = rest
 
 -- ---- two disjoint sets
 
-module _ (leaf : Leaf) (left right both : List Leaf) (same : SameBag (crossed union (product_of left) (product_of right)) (product_of both)) where
-  -- the leaf belongs to the left set
-  first-left : SameBag (crossed union (product_of (leaf ∷ left)) (product_of right)) (product_of (leaf ∷ both))
+module _ (rows : List Env) (left right both : List (List Env)) (same : SameBag (crossed union (products left) (products right)) (products both)) where
+  -- the rows belong to the left set
+  first-left : SameBag (crossed union (products (rows ∷ left)) (products right)) (products (rows ∷ both))
   first-left =
-      SameBag-trans (SameBag-≡ (ap (λ rows. crossed union rows (product_of right)) (product-cons leaf left) ∙ crossed-assoc leaf.rows (product_of left) (product_of right)))
-      (SameBag-trans (crossed-right leaf.rows same) (SameBag-≡ (sym (product-cons leaf both))))
+      SameBag-trans (SameBag-≡ (ap (λ first. crossed union first (products right)) (products-cons rows left) ∙ crossed-assoc rows (products left) (products right)))
+      (SameBag-trans (crossed-right rows same) (SameBag-≡ (sym (products-cons rows both))))
 
-  -- the leaf belongs to the right set
-  first-right : SameBag (crossed union (product_of left) leaf.rows) (crossed union leaf.rows (product_of left))
-      → SameBag (crossed union (product_of left) (product_of (leaf ∷ right))) (product_of (leaf ∷ both))
+  -- the rows belong to the right set
+  first-right : SameBag (crossed union (products left) rows) (crossed union rows (products left))
+      → SameBag (crossed union (products left) (products (rows ∷ right))) (products (rows ∷ both))
   first-right swapped =
-      SameBag-trans (SameBag-≡ (ap (crossed union (product_of left)) (product-cons leaf right) ∙ sym (crossed-assoc (product_of left) leaf.rows (product_of right))))
-      (SameBag-trans (crossed-left (product_of right) swapped)
-      (SameBag-trans (SameBag-≡ (crossed-assoc leaf.rows (product_of left) (product_of right)))
-      (SameBag-trans (crossed-right leaf.rows same) (SameBag-≡ (sym (product-cons leaf both))))))
+      SameBag-trans (SameBag-≡ (ap (crossed union (products left)) (products-cons rows right) ∙ sym (crossed-assoc (products left) rows (products right))))
+      (SameBag-trans (crossed-left (products right) swapped)
+      (SameBag-trans (SameBag-≡ (crossed-assoc rows (products left) (products right)))
+      (SameBag-trans (crossed-right rows same) (SameBag-≡ (sym (products-cons rows both))))))
 
-pub product-both : (leaves : List Leaf) → AllLeaves leaves → all_apart (map (λ leaf. leaf.columns) leaves) ≡ true → (left right : LeafSet) → AreDisjoint left right
-    → SameBag (crossed union (product_of (chosen left leaves)) (product_of (chosen right leaves))) (product_of (chosen (either left right) leaves))
-product-both [] all apart left right disjoint = SameBag-≡ (ap (λ row. row ∷ []) refl)
-product-both (leaf ∷ leaves) all apart left right disjoint =
-    by (left 0) (right 0) (disjoint 0) (product-both leaves all.1 (later-apart leaf leaves apart) (later left) (later right) (λ i. disjoint (suc i)))
+pub products-both : (leaves : List Leaf) → AllLeaves leaves → all_apart (leaf_columns leaves) ≡ true → (left right : LeafSet) → AreDisjoint left right
+    → SameBag (crossed union (products (chosen left (leaf_rows leaves))) (products (chosen right (leaf_rows leaves)))) (products (chosen (either left right) (leaf_rows leaves)))
+products-both [] all apart left right disjoint = SameBag-≡ (ap (λ row. row ∷ []) refl)
+products-both (leaf ∷ leaves) all apart left right disjoint =
+    by (left 0) (right 0) (disjoint 0) (products-both leaves all.1 (later-apart leaf.columns (leaf_columns leaves) apart) (later left) (later right) (λ i. disjoint (suc i)))
   where
-    swapped : SameBag (crossed union (product_of (chosen (later left) leaves)) leaf.rows) (crossed union leaf.rows (product_of (chosen (later left) leaves)))
-    swapped = crossed-swap leaf.columns (columns_in (later left) leaves)
-        (are_apart-from leaf.columns (columns_in (later left) leaves) (first-apart leaf leaves apart (later left)))
-        leaf.rows (product_of (chosen (later left) leaves)) all.0 (within-product (later left) leaves all.1)
+    swapped : SameBag (crossed union (products (chosen (later left) (leaf_rows leaves))) leaf.rows) (crossed union leaf.rows (products (chosen (later left) (leaf_rows leaves))))
+    swapped = crossed-swap leaf.columns (columns_in (later left) (leaf_columns leaves))
+        (are_apart-from leaf.columns (columns_in (later left) (leaf_columns leaves)) (first-apart leaf.columns (leaf_columns leaves) apart (later left)))
+        leaf.rows (products (chosen (later left) (leaf_rows leaves))) all.0 (within-products (later left) leaves all.1)
 
     by : (l r : Bool) → (l && r) ≡ false
-        → SameBag (crossed union (product_of (chosen (later left) leaves)) (product_of (chosen (later right) leaves))) (product_of (chosen (either (later left) (later right)) leaves))
-        → SameBag (crossed union (product_of (if l then leaf ∷ chosen (later left) leaves else chosen (later left) leaves))
-        (product_of (if r then leaf ∷ chosen (later right) leaves else chosen (later right) leaves)))
-        (product_of (if l || r then leaf ∷ chosen (either (later left) (later right)) leaves else chosen (either (later left) (later right)) leaves))
+        → SameBag (crossed union (products (chosen (later left) (leaf_rows leaves))) (products (chosen (later right) (leaf_rows leaves)))) (products (chosen (either (later left) (later right)) (leaf_rows leaves)))
+        → SameBag (crossed union (products (if l then leaf.rows ∷ chosen (later left) (leaf_rows leaves) else chosen (later left) (leaf_rows leaves)))
+        (products (if r then leaf.rows ∷ chosen (later right) (leaf_rows leaves) else chosen (later right) (leaf_rows leaves))))
+        (products (if l || r then leaf.rows ∷ chosen (either (later left) (later right)) (leaf_rows leaves) else chosen (either (later left) (later right)) (leaf_rows leaves)))
     by true true not_both rest = absurd (true≢false not_both)
-    by true false not_both rest = first-left leaf (chosen (later left) leaves) (chosen (later right) leaves) (chosen (either (later left) (later right)) leaves) rest
-    by false true not_both rest = first-right leaf (chosen (later left) leaves) (chosen (later right) leaves) (chosen (either (later left) (later right)) leaves) rest swapped
+    by true false not_both rest = first-left leaf.rows (chosen (later left) (leaf_rows leaves)) (chosen (later right) (leaf_rows leaves)) (chosen (either (later left) (later right)) (leaf_rows leaves)) rest
+    by false true not_both rest = first-right leaf.rows (chosen (later left) (leaf_rows leaves)) (chosen (later right) (leaf_rows leaves)) (chosen (either (later left) (later right)) (leaf_rows leaves)) rest swapped
     by false false not_both rest = rest

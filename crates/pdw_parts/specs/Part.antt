@@ -46,30 +46,36 @@ chosen set (x ∷ xs) = if set 0 then x ∷ chosen (λ i. set (suc i)) xs else c
 
 -- ---- conjuncts
 
--- the columns of a set of leaves
-abbrev pub columns_in : LeafSet → List Leaf → Columns
-columns_in set leaves = flat_map (λ leaf. leaf.columns) (chosen set leaves)
+-- the columns of a set of leaves, of which each has these
+abbrev pub columns_in : LeafSet → List Columns → Columns
+columns_in set leaves = flat_map (λ columns. columns) (chosen set leaves)
 
 -- a conjunct lies inside some columns where each column that it uses is among them; one without columns lies inside any
 abbrev pub is_inside : Columns → Cond → Bool
 is_inside columns conjunct = list_all (λ c. has_number c columns) (cond_columns conjunct)
 
 -- the conjuncts inside a set of leaves, in the order of the statement
-abbrev pub inside : LeafSet → List Leaf → List Cond → List Cond
+abbrev pub inside : LeafSet → List Columns → List Cond → List Cond
 inside set leaves conds = filter (is_inside (columns_in set leaves)) conds
 
 -- a conjunct lies between two sets of leaves where it lies inside both together and inside neither
-abbrev pub is_between : LeafSet → LeafSet → List Leaf → Cond → Bool
+abbrev pub is_between : LeafSet → LeafSet → List Columns → Cond → Bool
 is_between left right leaves conjunct =
     is_inside (columns_in (either left right) leaves) conjunct
     && (not (is_inside (columns_in left leaves) conjunct) && not (is_inside (columns_in right leaves) conjunct))
 
 -- the conjuncts that a join of two parts carries
-abbrev pub between : LeafSet → LeafSet → List Leaf → List Cond → List Cond
+abbrev pub between : LeafSet → LeafSet → List Columns → List Cond → List Cond
 between left right leaves conds = filter (is_between left right leaves) conds
 
 -- ---- rows
 
+abbrev pub leaf_columns : List Leaf → List Columns
+leaf_columns leaves = map (λ leaf. leaf.columns) leaves
+
+abbrev pub leaf_rows : List Leaf → List (List Env)
+leaf_rows leaves = map (λ leaf. leaf.rows) leaves
+
 -- the rows of a part: every union of one row of each of its leaves for which the conjuncts inside are True
 abbrev pub part_rows : LeafSet → List Leaf → List Cond → List Env
-part_rows set leaves conds = filtered (inside set leaves conds) (products (map (λ leaf. leaf.rows) (chosen set leaves)))
+part_rows set leaves conds = filtered (inside set (leaf_columns leaves) conds) (products (chosen set (leaf_rows leaves)))
