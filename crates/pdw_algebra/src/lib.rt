@@ -8,5 +8,5 @@ mod tree;
 mod types;
 
 pub use local::LocalTree;
-pub use schema::schema_of;
+pub use schema::{schema_of, schema_over};
 pub use tree::{MOST_LEAVES, Tree};
