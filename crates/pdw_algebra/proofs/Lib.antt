@@ -5,3 +5,5 @@ pub mod AllLaws
 pub mod WithinLaws
 pub mod Used
 pub mod Products
+pub mod TreeFolds
+pub mod RowsWithin
