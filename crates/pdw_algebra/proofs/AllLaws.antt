@@ -13,3 +13,11 @@ all-append P (x ∷ xs) ys first second = (first.0, all-append P xs ys first.1 s
 
 pub numbers-same : (a c : ColId) → (a.0 == c.0) ≡ true → a ≡ c
 numbers-same a c e = let n : a.0 ≡ c.0 = grind (arith, tests) in ap (λ n. record { 0 = n }) n
+
+pub all-left : {X : Type 0} (P : X → Type 0) (xs ys : List X) → AllByRecursion P (xs ++ ys) → AllByRecursion P xs
+all-left P [] ys all = tt
+all-left P (x ∷ xs) ys all = (all.0, all-left P xs ys all.1)
+
+pub all-right : {X : Type 0} (P : X → Type 0) (xs ys : List X) → AllByRecursion P (xs ++ ys) → AllByRecursion P ys
+all-right P [] ys all = all
+all-right P (x ∷ xs) ys all = all-right P xs ys all.1

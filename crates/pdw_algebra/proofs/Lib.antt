@@ -7,3 +7,4 @@ pub mod Used
 pub mod Products
 pub mod TreeFolds
 pub mod RowsWithin
+pub mod WellFormedParts
