@@ -8,5 +8,8 @@ mod tree;
 mod types;
 
 pub use local::LocalTree;
+pub use pdw_partial::{
+    admitted_partials_add_up, final_of_partials_is_the_groups, partials_of_one_bag_are_admitted,
+};
 pub use schema::{schema_of, schema_over};
 pub use tree::{MOST_LEAVES, Tree};

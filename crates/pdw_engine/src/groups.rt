@@ -8,9 +8,9 @@ ghost use Rattle.pdw_expr.specs.Parts as parts;
 ghost use Rattle.pdw_expr.specs.Rows as operators;
 
 use crate::cells::{column, computed, or_else};
-use crate::columns::by_rising_numbers;
 use crate::pairs::copies;
 use crate::relation::Relation;
+use pdw_algebra::schema_over;
 use pdw_base::{ColId, Kind, NoMemory, Row, Schema, Value};
 use pdw_expr::{Agg, Scalar, aggregated, each_once, is_same_row};
 use sqlite_items::Items;
@@ -296,7 +296,7 @@ pub fn grouped(
     ensures { IfOk result (λ found. spec.environments found ≡ operators.grouped keys.now aggs.now (spec.environments child.now)) }
 {
     let made = group_columns(alloc, keys, aggs)?;
-    let columns = by_rising_numbers(alloc, made.as_slice())?;
+    let columns = schema_over(alloc, made.as_slice())?;
     let groups = groups(alloc, keys, &child.columns, child.rows.as_slice())?;
     let rows = group_rows(
         alloc,

@@ -6,8 +6,8 @@ ghost use Rattle.pdw_engine.specs.Relation as spec;
 ghost use Rattle.pdw_expr.specs.Rows as operators;
 
 use crate::cells::{column, computed};
-use crate::columns::by_rising_numbers;
 use crate::relation::Relation;
+use pdw_algebra::schema_over;
 use pdw_base::{ColId, Kind, NoMemory, Row, Schema, Value};
 use pdw_expr::Scalar;
 use sqlite_items::Items;
@@ -100,7 +100,7 @@ pub fn projected(
     ensures { IfOk result (λ found. spec.environments found ≡ map (operators.projected items.now) (spec.environments child.now)) }
 {
     let made = item_columns(alloc, items)?;
-    let columns = by_rising_numbers(alloc, made.as_slice())?;
+    let columns = schema_over(alloc, made.as_slice())?;
     let rows = projected_rows(
         alloc,
         &columns,

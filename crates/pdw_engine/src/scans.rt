@@ -9,8 +9,8 @@ ghost use Rattle.pdw_engine.specs.Relation as spec;
 ghost use Rattle.pdw_expr.specs.Rows as operators;
 
 use crate::cells::value_or_null;
-use crate::columns::by_rising_numbers;
 use crate::relation::Relation;
+use pdw_algebra::schema_over;
 use pdw_base::{Bag, ColId, Kind, NoMemory, Row, Schema, Str, Value};
 use pdw_catalog::Appliance;
 use sqlite_items::{Items, at};
@@ -123,7 +123,7 @@ pub fn scanned(
     ensures { IfOk result (λ found. spec.environments found ≡ map (operators.scanned cols.now) (whole_of table.now appliance.now)) }
 {
     let used = scan_columns(alloc, cols)?;
-    let columns = by_rising_numbers(alloc, used.as_slice())?;
+    let columns = schema_over(alloc, used.as_slice())?;
     let rows = table_rows(alloc, &columns, cols, table, appliance)?;
     Ok(Relation { columns, rows })
 }
