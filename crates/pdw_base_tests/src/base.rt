@@ -4,23 +4,27 @@ use std::alloc::Global;
 use std::cmp::Ordering;
 use std::test::Fail;
 
-const NODES_OF_FOUR: [(&str, u32); 8] = [
-    ("NULL", 0),
-    ("-7", 1),
-    ("7", 3),
-    ("-9223372036854775808", 0),
-    ("wide -7", 1),
-    ("'a", 2),
-    ("'ab", 0),
-    ("'", 3),
-];
+// Values, and the node of four that each has.
+const NODES_OF_FOUR: &str = "\
+NULL => 0
+-7 => 1
+7 => 3
+-9223372036854775808 => 0
+wide -7 => 1
+'a => 2
+'ab => 0
+' => 3";
+
+fn has_node(alloc: Global, line: &str) -> Result<bool, Fail> {
+    let (case, node) = line.split_once(" => ").ok_or("an arrow")?;
+    let four = NodeCount::new(4).ok_or("count")?;
+    Ok(node_of(&value(alloc, case)?, four) == node.parse::<u32>()?)
+}
 
 #[test]
 fn a_value_has_its_node(rt: HostRuntime) -> Result<(), Fail> {
-    let four = NodeCount::new(4).ok_or("count")?;
-    for (case, node) in NODES_OF_FOUR {
-        let placed = value(rt.alloc(), case)?;
-        assert_eq!(rt; node_of(&placed, four), node, "{case}");
+    for line in NODES_OF_FOUR.lines() {
+        assert!(rt; has_node(rt.alloc(), line)?, "{line}");
     }
     Ok(())
 }
@@ -36,91 +40,107 @@ fn an_appliance_has_one_to_sixteen_nodes(rt: HostRuntime) {
     }
 }
 
-// Each pair as ORDER BY has it, and whether a condition compares it.
-const PAIRS: [(&str, &str, Ordering, bool); 13] = [
-    ("NULL", "NULL", Ordering::Equal, false),
-    ("NULL", "-9223372036854775808", Ordering::Less, false),
-    ("-1", "0", Ordering::Less, true),
-    ("3", "3", Ordering::Equal, true),
-    ("9", "'", Ordering::Less, false),
-    ("'a", "'ab", Ordering::Less, true),
-    ("'Z", "'a", Ordering::Less, true),
-    ("'b", "'aa", Ordering::Greater, true),
-    ("'a", "'a ", Ordering::Less, true),
-    ("'a", "'a", Ordering::Equal, true),
-    ("'z", "wide 0", Ordering::Less, false),
-    (
-        "wide -170141183460469231731687303715884105728",
-        "wide 0",
-        Ordering::Less,
-        true,
-    ),
-    ("wide 5", "5", Ordering::Greater, false),
-];
+// Each pair as ORDER BY has it. A condition does not compare those before a question mark.
+const PAIRS: &str = "\
+NULL = NULL ?
+NULL < -9223372036854775808 ?
+-1 < 0
+3 = 3
+9 < ' ?
+'a < 'ab
+'Z < 'a
+'b > 'aa
+'a < 'a\u{20}
+'a = 'a
+'z < wide 0 ?
+wide -170141183460469231731687303715884105728 < wide 0
+wide 5 > 5 ?";
+
+// The two values of a pair, and the order that its sign says.
+fn split_by_sign(pair: &str) -> Option<(&str, &str, Ordering)> {
+    if let Some((one, other)) = pair.split_once(" < ") {
+        return Some((one, other, Ordering::Less));
+    }
+    if let Some((one, other)) = pair.split_once(" > ") {
+        return Some((one, other, Ordering::Greater));
+    }
+    let (one, other) = pair.split_once(" = ")?;
+    Some((one, other, Ordering::Equal))
+}
+
+// Whether the values are ordered so, either way round, and compared so.
+fn are_ordered(first: &Value, second: &Value, ordering: Ordering, compares: bool) -> bool {
+    let compared = if compares { Some(ordering) } else { None };
+    order(first.as_ref(), second.as_ref()) == ordering
+        && order(second.as_ref(), first.as_ref()) == ordering.reverse()
+        && compare(first.as_ref(), second.as_ref()) == compared
+}
+
+fn pair_holds(alloc: Global, line: &str) -> Result<bool, Fail> {
+    let plain = line.strip_suffix(" ?");
+    let pair = plain.unwrap_or(line);
+    let (one, other, ordering) = split_by_sign(pair).ok_or("a sign")?;
+    let first = value(alloc, one)?;
+    match value(alloc, other) {
+        Ok(second) => Ok(are_ordered(&first, &second, ordering, plain.is_none())),
+        Err(fail) => Err(fail),
+    }
+}
 
 #[test]
 fn values_compare_within_a_kind_and_are_ordered_over_all(rt: HostRuntime) -> Result<(), Fail> {
-    for (one, other, ordering, compares) in PAIRS {
-        let first = value(rt.alloc(), one)?;
-        let second = value(rt.alloc(), other)?;
-        assert_eq!(rt;
-            order(first.as_ref(), second.as_ref()),
-            ordering,
-            "{one} {other}"
-        );
-        let back = order(second.as_ref(), first.as_ref());
-        assert_eq!(rt; back, ordering.reverse(), "{other} {one}");
-        let wanted = compares.then_some(ordering);
-        assert_eq!(rt;
-            compare(first.as_ref(), second.as_ref()),
-            wanted,
-            "{one} {other}"
-        );
+    for line in PAIRS.lines() {
+        assert!(rt; pair_holds(rt.alloc(), line)?, "{line}");
     }
     Ok(())
 }
 
-const BYTES: [(&[u8], bool); 7] = [
-    (b"", true),
-    (b"Ann", true),
-    (b"\xc3\xa9", true),
-    (b"\xc3", false),
-    (b"\xff", false),
-    (b"\xc0\x80", false),
-    (b"\xed\xa0\x80", false),
-];
+// Whether the bytes are a text, which then has these bytes, and so has a copy.
+fn is_text(alloc: Global, bytes: &[u8]) -> Result<bool, Fail> {
+    match Str::from_bytes(alloc, bytes)? {
+        Some(found) => Ok(found.bytes() == bytes && found.try_copy(alloc)? == found),
+        None => Ok(false),
+    }
+}
 
 #[test]
 fn bytes_in_utf8_are_a_text(rt: HostRuntime) -> Result<(), Fail> {
-    for (bytes, is_text) in BYTES {
-        match Str::from_bytes(rt.alloc(), bytes)? {
-            Some(found) => {
-                assert!(rt; is_text, "{bytes:?}");
-                assert_eq!(rt; found.bytes(), bytes);
-                assert!(rt; found.try_copy(rt.alloc())? == found, "{bytes:?}");
-            }
-            None => assert!(rt; !is_text, "{bytes:?}"),
-        }
+    for bytes in [b"".as_slice(), b"Ann", b"\xc3\xa9"] {
+        assert!(rt; is_text(rt.alloc(), bytes)?, "{bytes:?}");
+    }
+    for bytes in [b"\xc3".as_slice(), b"\xff", b"\xc0\x80", b"\xed\xa0\x80"] {
+        assert!(rt; !is_text(rt.alloc(), bytes)?, "{bytes:?}");
     }
     Ok(())
+}
+
+// The schema of an INT and a TEXT column of these numbers, if there is one.
+fn schema_of(alloc: Global, first: u16, second: u16) -> Result<Option<Schema>, Fail> {
+    let mut columns = Vec::new(alloc);
+    columns.push((ColId(first), Kind::Int))?;
+    columns.push((ColId(second), Kind::Text))?;
+    Ok(Schema::new(columns))
 }
 
 #[test]
 fn a_schema_rises_strictly(rt: HostRuntime) -> Result<(), Fail> {
     let alloc = rt.alloc();
-    for (first, second, rises) in [(3, 5, true), (5, 5, false), (5, 3, false)] {
-        let columns = vec![in alloc; (ColId(first), Kind::Int), (ColId(second), Kind::Text)]?;
-        assert_eq!(rt; Schema::new(columns).is_some(), rises, "{first} {second}");
-    }
-    let columns = vec![in alloc; (ColId(3), Kind::Int), (ColId(5), Kind::Text)]?;
-    let schema = Schema::new(columns).ok_or("rising")?.try_copy(alloc)?;
-    assert_eq!(rt;
-        schema.cols(),
-        [(ColId(3), Kind::Int), (ColId(5), Kind::Text)].as_slice()
-    );
-    for (column, place) in [(3, Some(0)), (5, Some(1)), (4, None)] {
-        assert_eq!(rt; schema.place(ColId(column)), place, "{column}");
-    }
+    assert!(rt; schema_of(alloc, 3, 5)?.is_some());
+    assert!(rt; schema_of(alloc, 5, 5)?.is_none());
+    assert!(rt; schema_of(alloc, 5, 3)?.is_none());
+    Ok(())
+}
+
+#[test]
+fn a_schema_places_its_columns(rt: HostRuntime) -> Result<(), Fail> {
+    let alloc = rt.alloc();
+    let made = schema_of(alloc, 3, 5)?.ok_or("rising")?;
+    let schema = made.try_copy(alloc)?;
+    let wanted = [(ColId(3), Kind::Int), (ColId(5), Kind::Text)];
+    assert_eq!(rt; schema.cols(), wanted.as_slice());
+    assert_eq!(rt; schema.place(ColId(3)), Some(0));
+    assert_eq!(rt; schema.place(ColId(5)), Some(1));
+    assert_eq!(rt; schema.place(ColId(4)), None);
     Ok(())
 }
 

@@ -1,7 +1,7 @@
-ghost use Rattle.std.specs.Prelude.{◌≡◌, [], ◌∷◌, Some, vec_len, IfOk};
+ghost use Rattle.std.specs.Prelude.{◌≡◌, ◌<◌, [], ◌∷◌, Some, vec_len, IfOk};
 ghost use Rattle.std.specs.List.{AllByRecursion};
 ghost use Rattle.pdw_catalog.specs.Table.{FitsTable, IsPlaced};
-ghost use Rattle.pdw_catalog.specs.Appliance.{creating, empty_of};
+ghost use Rattle.pdw_catalog.specs.Appliance.{HasTable, creating, empty_of};
 ghost use Rattle.pdw_catalog.specs.Sample.{sample_columns, sample_table};
 
 use pdw_base::{Bag, Kind, NoMemory, NodeCount, Row, Str, Value};
@@ -64,16 +64,16 @@ fn equal_rows(alloc: Global, count: usize) -> Result<Vec<Row>, NoMemory>
     Ok(rows)
 }
 
-// The first value of each row, None for NULL.
-fn numbers(alloc: Global, bag: &Bag) -> Result<Vec<Option<i64>>, NoMemory> {
-    let mut numbers = Vec::new(alloc);
+// The first value of each row, with a space after it.
+fn shown(alloc: Global, bag: &Bag) -> Result<String, NoMemory> {
+    let mut text = String::new(alloc);
     for row in bag.rows() {
-        numbers.push(match row.values().first() {
-            Some(Value::Int(number)) => Some(*number),
-            _ => None,
-        })?;
+        match row.values().first() {
+            Some(Value::Int(number)) => text.push_str(format!(in alloc; "{number} ")?.as_str())?,
+            _ => text.push_str("NULL ")?,
+        }
     }
-    Ok(numbers)
+    Ok(text)
 }
 
 // Three compute nodes and the empty table t.
@@ -87,12 +87,45 @@ fn with_table(alloc: Global, placing: Placing) -> Result<Appliance, NoMemory>
     Ok(appliance)
 }
 
+fn check_node(
+    rt: &impl Abort,
+    alloc: Global,
+    appliance: &Appliance,
+    name: &Str,
+    node: u32,
+    wanted: &str,
+) -> Result<(), NoMemory>
+    requires there { HasTable appliance.now name.now }
+    requires within { node < appliance.now.nodes }
+{
+    let found = shown(alloc, appliance.rows_at(name, node))?;
+    assert_eq!(rt; found.as_str(), wanted, "at node {node}");
+    Ok(())
+}
+
+fn check_whole(
+    rt: &impl Abort,
+    alloc: Global,
+    appliance: &Appliance,
+    name: &Str,
+    wanted: &str,
+) -> Result<(), NoMemory>
+    requires { HasTable appliance.now name.now }
+{
+    assert_eq!(rt; appliance.row_count(name), 2);
+    let all = appliance.whole(alloc, name)?;
+    let found = shown(alloc, &all)?;
+    assert_eq!(rt; found.as_str(), wanted);
+    Ok(())
+}
+
+// The two rows, placed so: what stands at each node, and the whole table.
 fn check_placing(
     rt: &impl Abort,
     alloc: Global,
     placing: Placing,
-    at_nodes: [&[Option<i64>]; 3],
-    whole: &[Option<i64>],
+    at_nodes: [&str; 3],
+    whole: &str,
 ) -> Result<(), NoMemory>
     requires { IsPlaced placing 2 }
 {
@@ -101,35 +134,17 @@ fn check_placing(
     let rows = two_rows(alloc)?;
     appliance.append_rows(alloc, &name, rows)?;
     for node in 0..3 {
-        let found = numbers(alloc, appliance.rows_at(&name, node))?;
-        assert_eq!(rt; found.as_slice(), at_nodes[node as usize], "at node {node}");
+        check_node(rt, alloc, &appliance, &name, node, at_nodes[node as usize])?;
     }
-    assert_eq!(rt; appliance.row_count(&name), whole.len());
-    let all = appliance.whole(alloc, &name)?;
-    let found = numbers(alloc, &all)?;
-    assert_eq!(rt; found.as_slice(), whole);
-    Ok(())
+    check_whole(rt, alloc, &appliance, &name, whole)
 }
 
 #[test]
 fn rows_stand_where_the_placing_says(rt: HostRuntime) -> Result<(), Fail> {
-    let four: &[Option<i64>] = &[Some(4)];
-    let null: &[Option<i64>] = &[None];
-    let both: &[Option<i64>] = &[Some(4), None];
-    check_placing(
-        &rt,
-        rt.alloc(),
-        Placing::Hash(0),
-        [null, four, &[]],
-        &[None, Some(4)],
-    )?;
-    check_placing(
-        &rt,
-        rt.alloc(),
-        Placing::Replicate,
-        [both, both, both],
-        both,
-    )?;
+    let placed = ["NULL ", "4 ", ""];
+    check_placing(&rt, rt.alloc(), Placing::Hash(0), placed, "NULL 4 ")?;
+    let copied = ["4 NULL ", "4 NULL ", "4 NULL "];
+    check_placing(&rt, rt.alloc(), Placing::Replicate, copied, "4 NULL ")?;
     Ok(())
 }
 
@@ -153,8 +168,7 @@ fn dropping_leaves_the_other_table(rt: HostRuntime) -> Result<(), Fail> {
     assert_eq!(rt; copy.columns.len(), 2);
     assert_eq!(rt; copy.placing, Placing::Replicate);
     assert_eq!(rt; copy.placing.most_rows(), 100_000);
-    let found = numbers(alloc, appliance.rows_at(&second, 1))?;
-    assert_eq!(rt; found.as_slice(), [Some(4), None].as_slice());
+    check_node(&rt, alloc, &appliance, &second, 1, "4 NULL ")?;
     Ok(())
 }
 

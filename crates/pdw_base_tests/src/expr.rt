@@ -4,18 +4,19 @@ use pdw_expr::{Agg, AggKind, Arith, Cmp, Cond, Scalar, eval_cond, eval_scalar};
 use sqlite_items::{Boxed, Items};
 use std::alloc::Global;
 use std::cmp::Ordering;
+use std::mem::drop;
 use std::test::Fail;
 
 fn literal(alloc: Global, case: &str) -> Result<Scalar, Fail> {
     Ok(Scalar::Lit(value(alloc, case)?))
 }
 
-fn operator(case: char) -> Arith {
-    match case {
-        '+' => Arith::Add,
-        '-' => Arith::Sub,
-        '*' => Arith::Mul,
-        '/' => Arith::Div,
+fn operator(sign: &str) -> Arith {
+    match sign.chars().next() {
+        Some('+') => Arith::Add,
+        Some('-') => Arith::Sub,
+        Some('*') => Arith::Mul,
+        Some('/') => Arith::Div,
         _ => Arith::Rem,
     }
 }
@@ -51,34 +52,73 @@ fn row(alloc: Global) -> Result<Row, Fail> {
     Ok(Row::from_values(values))
 }
 
-fn chain(alloc: Global, first: Scalar, op: Arith, second: Scalar) -> Result<Scalar, Fail> {
-    let first = Boxed::new(alloc, first)?;
+fn link(alloc: Global, sign: &str, operand: &str) -> Result<(Arith, Scalar), Fail> {
+    Ok((operator(sign), literal(alloc, operand)?))
+}
+
+fn links(alloc: Global, sign: &str, operand: &str) -> Result<Vec<(Arith, Scalar)>, Fail> {
     let mut links = Vec::new(alloc);
-    links.push((op, second))?;
+    links.push(link(alloc, sign, operand)?)?;
+    Ok(links)
+}
+
+fn boxed(alloc: Global, operand: &str) -> Result<Boxed<Scalar>, Fail> {
+    Ok(Boxed::new(alloc, literal(alloc, operand)?)?)
+}
+
+fn chain(alloc: Global, first: &str, sign: &str, second: &str) -> Result<Scalar, Fail> {
+    let links = links(alloc, sign, second)?;
+    let first = boxed(alloc, first)?;
     Ok(Scalar::Chain(first, Items::from_vec(links)))
+}
+
+// Two literals.
+fn literals(alloc: Global, a: &str, b: &str) -> Result<(Scalar, Scalar), Fail> {
+    let first = value(alloc, a)?;
+    match value(alloc, b) {
+        Ok(second) => Ok((Scalar::Lit(first), Scalar::Lit(second))),
+        Err(fail) => {
+            drop(first);
+            Err(fail)
+        }
+    }
 }
 
 fn is_same(found: ValueRef<'_>, wanted: &Value) -> bool {
     order(found, wanted.as_ref()) == Ordering::Equal
 }
 
+fn gives_value(alloc: Global, e: &Scalar, wanted: &Value) -> Result<bool, Fail> {
+    let schema = schema(alloc)?;
+    let row = row(alloc)?;
+    Ok(is_same(eval_scalar(e, &schema, &row), wanted))
+}
+
+fn copy_gives_value(alloc: Global, e: &Scalar, wanted: &Value) -> Result<bool, Fail> {
+    let copy = e.try_copy(alloc)?;
+    gives_value(alloc, &copy, wanted)
+}
+
 // The expression has this value, and so has a copy of it.
 fn has_value(alloc: Global, e: &Scalar, wanted: &str) -> Result<bool, Fail> {
     let wanted = value(alloc, wanted)?;
+    Ok(gives_value(alloc, e, &wanted)? && copy_gives_value(alloc, e, &wanted)?)
+}
+
+fn truth_of(alloc: Global, c: &Cond) -> Result<Truth, Fail> {
     let schema = schema(alloc)?;
     let row = row(alloc)?;
-    let copy = e.try_copy(alloc)?;
-    let kept = is_same(eval_scalar(&copy, &schema, &row), &wanted);
-    Ok(kept && is_same(eval_scalar(e, &schema, &row), &wanted))
+    Ok(eval_cond(c, &schema, &row))
+}
+
+fn truth_of_copy(alloc: Global, c: &Cond) -> Result<Truth, Fail> {
+    let copy = c.try_copy(alloc)?;
+    truth_of(alloc, &copy)
 }
 
 // The condition has this truth, and so has a copy of it.
 fn has_truth(alloc: Global, c: &Cond, wanted: Truth) -> Result<bool, Fail> {
-    let schema = schema(alloc)?;
-    let row = row(alloc)?;
-    let copy = c.try_copy(alloc)?;
-    let kept = eval_cond(&copy, &schema, &row) == wanted;
-    Ok(kept && eval_cond(c, &schema, &row) == wanted)
+    Ok(truth_of(alloc, c)? == wanted && truth_of_copy(alloc, c)? == wanted)
 }
 
 // A condition that has this truth.
@@ -97,183 +137,212 @@ fn pair(alloc: Global, a: Truth, b: Truth) -> Result<Items<Cond>, Fail> {
     Ok(Items::from_vec(parts))
 }
 
-const ARITHMETIC: [(&str, char, &str, &str); 22] = [
-    ("1", '+', "2", "3"),
-    ("9223372036854775807", '+', "1", "NULL"),
-    ("-9223372036854775808", '+', "-1", "NULL"),
-    ("-9223372036854775808", '+', "9223372036854775807", "-1"),
-    ("1", '-', "2", "-1"),
-    ("-9223372036854775808", '-', "1", "NULL"),
-    ("0", '-', "-9223372036854775808", "NULL"),
-    ("-1", '-', "-9223372036854775808", "9223372036854775807"),
-    ("-3", '*', "4", "-12"),
-    ("-9223372036854775808", '*', "-1", "NULL"),
-    ("4294967296", '*', "2147483648", "NULL"),
-    ("4294967296", '*', "-2147483648", "-9223372036854775808"),
-    ("7", '/', "2", "3"),
-    ("-7", '/', "2", "-3"),
-    ("7", '/', "-2", "-3"),
-    ("-7", '/', "-2", "3"),
-    ("-9223372036854775808", '/', "-1", "NULL"),
-    ("7", '%', "2", "1"),
-    ("-7", '%', "2", "-1"),
-    ("7", '%', "-2", "1"),
-    ("-7", '%', "-2", "-1"),
-    ("-9223372036854775808", '%', "-1", "0"),
-];
+const ARITHMETIC: &str = "\
+1 + 2 => 3
+9223372036854775807 + 1 => NULL
+-9223372036854775808 + -1 => NULL
+-9223372036854775808 + 9223372036854775807 => -1
+1 - 2 => -1
+-9223372036854775808 - 1 => NULL
+0 - -9223372036854775808 => NULL
+-1 - -9223372036854775808 => 9223372036854775807
+-3 * 4 => -12
+-9223372036854775808 * -1 => NULL
+4294967296 * 2147483648 => NULL
+4294967296 * -2147483648 => -9223372036854775808
+7 / 2 => 3
+-7 / 2 => -3
+7 / -2 => -3
+-7 / -2 => 3
+-9223372036854775808 / -1 => NULL
+7 % 2 => 1
+-7 % 2 => -1
+7 % -2 => 1
+-7 % -2 => -1
+-9223372036854775808 % -1 => 0";
+
+fn computes(alloc: Global, line: &str) -> Result<bool, Fail> {
+    let (chained, wanted) = line.split_once(" => ").ok_or("an arrow")?;
+    let (first, rest) = chained.split_once(' ').ok_or("an operator")?;
+    let (sign, second) = rest.split_once(' ').ok_or("an operand")?;
+    let e = chain(alloc, first, sign, second)?;
+    has_value(alloc, &e, wanted)
+}
 
 #[test]
 fn arithmetic_is_exact_or_null(rt: HostRuntime) -> Result<(), Fail> {
-    let alloc = rt.alloc();
-    for (a, op, b, wanted) in ARITHMETIC {
-        let e = chain(alloc, literal(alloc, a)?, operator(op), literal(alloc, b)?)?;
-        assert!(rt; has_value(alloc, &e, wanted)?, "{a} {op} {b}");
+    for line in ARITHMETIC.lines() {
+        assert!(rt; computes(rt.alloc(), line)?, "{line}");
     }
     Ok(())
 }
 
-// Each operator with the operand on both sides of a number.
-fn gives_null(alloc: Global, op: Arith, other: &str) -> Result<bool, Fail> {
-    let before = chain(alloc, literal(alloc, other)?, op, number(1))?;
-    let after = chain(alloc, number(1), op, literal(alloc, other)?)?;
-    let first = has_value(alloc, &before, "NULL")?;
-    Ok(first && has_value(alloc, &after, "NULL")?)
+fn is_null_chain(alloc: Global, first: &str, sign: &str, second: &str) -> Result<bool, Fail> {
+    let e = chain(alloc, first, sign, second)?;
+    has_value(alloc, &e, "NULL")
+}
+
+// Whether the operator gives NULL with the operand on either side of a number.
+fn gives_null(alloc: Global, sign: &str, other: &str) -> Result<bool, Fail> {
+    Ok(is_null_chain(alloc, other, sign, "1")? && is_null_chain(alloc, "1", sign, other)?)
 }
 
 #[test]
 fn an_operand_that_is_no_number_gives_null(rt: HostRuntime) -> Result<(), Fail> {
-    let alloc = rt.alloc();
-    for op in ['+', '-', '*', '/', '%'] {
+    for sign in ["+", "-", "*", "/", "%"] {
         for other in ["NULL", "'1", "wide 1"] {
-            assert!(rt; gives_null(alloc, operator(op), other)?, "{op} {other}");
+            assert!(rt; gives_null(rt.alloc(), sign, other)?, "{sign} {other}");
         }
     }
-    for op in ['/', '%'] {
-        let e = chain(alloc, number(7), operator(op), number(0))?;
-        assert!(rt; has_value(alloc, &e, "NULL")?, "7 {op} 0");
+    for sign in ["/", "%"] {
+        assert!(rt; is_null_chain(rt.alloc(), "7", sign, "0")?, "7 {sign} 0");
     }
     Ok(())
 }
 
-const SIGNS: [[&str; 2]; 6] = [
-    ["5", "-5"],
-    ["-5", "5"],
-    ["9223372036854775807", "-9223372036854775807"],
-    ["-9223372036854775808", "NULL"],
-    ["NULL", "NULL"],
-    ["'1", "NULL"],
-];
+const SIGNS: &str = "\
+5 => -5
+-5 => 5
+9223372036854775807 => -9223372036854775807
+-9223372036854775808 => NULL
+NULL => NULL
+'1 => NULL";
+
+fn changes_sign(alloc: Global, line: &str) -> Result<bool, Fail> {
+    let (operand, wanted) = line.split_once(" => ").ok_or("an arrow")?;
+    let e = Scalar::Neg(boxed(alloc, operand)?);
+    has_value(alloc, &e, wanted)
+}
 
 #[test]
 fn a_sign_is_exact_or_null(rt: HostRuntime) -> Result<(), Fail> {
-    let alloc = rt.alloc();
-    for [operand, wanted] in SIGNS {
-        let e = Scalar::Neg(Boxed::new(alloc, literal(alloc, operand)?)?);
-        assert!(rt; has_value(alloc, &e, wanted)?, "- {operand}");
+    for line in SIGNS.lines() {
+        assert!(rt; changes_sign(rt.alloc(), line)?, "{line}");
     }
     Ok(())
 }
 
-const CHAINS: [(&str, char, &str, char, &str, &str); 4] = [
-    ("10", '-', "3", '-', "2", "5"),
-    ("7", '-', "2", '*', "3", "15"),
-    ("100", '/', "8", '/', "5", "2"),
-    ("9223372036854775807", '+', "1", '-', "1", "NULL"),
-];
+const CHAINS: &str = "\
+10 - 3 - 2 => 5
+7 - 2 * 3 => 15
+100 / 8 / 5 => 2
+9223372036854775807 + 1 - 1 => NULL";
+
+fn computes_twice(alloc: Global, line: &str) -> Result<bool, Fail> {
+    let (chained, wanted) = line.split_once(" => ").ok_or("an arrow")?;
+    let (first, rest) = chained.split_once(' ').ok_or("an operator")?;
+    let (sign, rest) = rest.split_once(' ').ok_or("an operand")?;
+    let (second, rest) = rest.split_once(' ').ok_or("an operator")?;
+    let (last_sign, third) = rest.split_once(' ').ok_or("an operand")?;
+    let mut links = links(alloc, sign, second)?;
+    links.push(link(alloc, last_sign, third)?)?;
+    let e = Scalar::Chain(boxed(alloc, first)?, Items::from_vec(links));
+    has_value(alloc, &e, wanted)
+}
 
 #[test]
 fn a_chain_is_computed_from_left_to_right(rt: HostRuntime) -> Result<(), Fail> {
-    let alloc = rt.alloc();
-    for (a, op, b, other, c, wanted) in CHAINS {
-        let first = Boxed::new(alloc, literal(alloc, a)?)?;
-        let mut links = Vec::new(alloc);
-        links.push((operator(op), literal(alloc, b)?))?;
-        links.push((operator(other), literal(alloc, c)?))?;
-        let e = Scalar::Chain(first, Items::from_vec(links));
-        assert!(rt; has_value(alloc, &e, wanted)?, "{a} {op} {b} {other} {c}");
+    for line in CHAINS.lines() {
+        assert!(rt; computes_twice(rt.alloc(), line)?, "{line}");
     }
     Ok(())
 }
 
-const COLUMNS: [(u16, &str); 5] = [(3, "7"), (4, "NULL"), (5, "NULL"), (8, "'Ann"), (9, "NULL")];
+const COLUMNS: &str = "\
+3 => 7
+4 => NULL
+5 => NULL
+8 => 'Ann
+9 => NULL";
+
+fn column_has(alloc: Global, line: &str) -> Result<bool, Fail> {
+    let (column, wanted) = line.split_once(" => ").ok_or("an arrow")?;
+    let e = Scalar::Col(ColId(column.parse::<u16>()?));
+    has_value(alloc, &e, wanted)
+}
 
 #[test]
 fn a_column_that_the_row_has_not_is_null(rt: HostRuntime) -> Result<(), Fail> {
-    for (column, wanted) in COLUMNS {
-        let e = Scalar::Col(ColId(column));
-        assert!(rt; has_value(rt.alloc(), &e, wanted)?, "{column}");
+    for line in COLUMNS.lines() {
+        assert!(rt; column_has(rt.alloc(), line)?, "{line}");
     }
     Ok(())
 }
 
 fn compares(alloc: Global, a: &str, op: Cmp, b: &str, wanted: Truth) -> Result<bool, Fail> {
-    let c = Cond::Compare(op, literal(alloc, a)?, literal(alloc, b)?);
-    has_truth(alloc, &c, wanted)
+    let (first, second) = literals(alloc, a, b)?;
+    has_truth(alloc, &Cond::Compare(op, first, second), wanted)
 }
 
-// The truths where the first value is less, where both are equal, and where it is greater.
-const OPERATORS: [(Cmp, char, char, char); 6] = [
-    (Cmp::Eq, 'F', 'T', 'F'),
-    (Cmp::Ne, 'T', 'F', 'T'),
-    (Cmp::Lt, 'T', 'F', 'F'),
-    (Cmp::Le, 'T', 'T', 'F'),
-    (Cmp::Gt, 'F', 'F', 'T'),
-    (Cmp::Ge, 'F', 'T', 'T'),
-];
+// The truths of `=`, `<>`, `<`, `<=`, `>` and `>=` between two values.
+const COMPARED: &str = "\
+-1 ; 1 => FTTTFF
+1 ; 1 => TFFTFT
+1 ; -1 => FTFFTT
+'a ; 'a  => FTTTFF
+'a ; 'a => TFFTFT
+'a ; 'Z => FTFFTT
+NULL ; 1 => UUUUUU
+1 ; NULL => UUUUUU
+NULL ; NULL => UUUUUU
+1 ; '1 => UUUUUU";
 
-// Pairs of values, and how they compare.
-const COMPARED: [(&str, &str, Option<Ordering>); 10] = [
-    ("-1", "1", Some(Ordering::Less)),
-    ("1", "1", Some(Ordering::Equal)),
-    ("1", "-1", Some(Ordering::Greater)),
-    ("'a", "'a ", Some(Ordering::Less)),
-    ("'a", "'a", Some(Ordering::Equal)),
-    ("'a", "'Z", Some(Ordering::Greater)),
-    ("NULL", "1", None),
-    ("1", "NULL", None),
-    ("NULL", "NULL", None),
-    ("1", "'1", None),
-];
+fn compare_so(alloc: Global, line: &str) -> Result<bool, Fail> {
+    let (pair, wanted) = line.split_once(" => ").ok_or("an arrow")?;
+    let (a, b) = pair.split_once(" ; ").ok_or("a pair")?;
+    let mut truths = wanted.chars();
+    for op in [Cmp::Eq, Cmp::Ne, Cmp::Lt, Cmp::Le, Cmp::Gt, Cmp::Ge] {
+        let wanted = truths.next().ok_or("a truth")?;
+        if !compares(alloc, a, op, b, truth(wanted))? {
+            return Ok(false);
+        }
+    }
+    Ok(true)
+}
 
 #[test]
 fn values_of_one_kind_compare(rt: HostRuntime) -> Result<(), Fail> {
-    for (op, less, equal, greater) in OPERATORS {
-        for (a, b, ordering) in COMPARED {
-            let wanted = match ordering {
-                Some(Ordering::Less) => less,
-                Some(Ordering::Equal) => equal,
-                Some(Ordering::Greater) => greater,
-                None => 'U',
-            };
-            assert!(rt;
-                compares(rt.alloc(), a, op, b, truth(wanted))?,
-                "{a} {op:?} {b}"
-            );
-        }
+    for line in COMPARED.lines() {
+        assert!(rt; compare_so(rt.alloc(), line)?, "{line}");
     }
     Ok(())
 }
 
+fn and_is(alloc: Global, a: Truth, b: Truth, wanted: Truth) -> Result<bool, Fail> {
+    let all = Cond::All(pair(alloc, a, b)?);
+    has_truth(alloc, &all, wanted)
+}
+
+fn or_is(alloc: Global, a: Truth, b: Truth, wanted: Truth) -> Result<bool, Fail> {
+    let any = Cond::Any(pair(alloc, a, b)?);
+    has_truth(alloc, &any, wanted)
+}
+
 // Two truths, that of both together, and that of either.
-const CONNECTED: [(char, char, char, char); 9] = [
-    ('T', 'T', 'T', 'T'),
-    ('T', 'F', 'F', 'T'),
-    ('T', 'U', 'U', 'T'),
-    ('F', 'T', 'F', 'T'),
-    ('F', 'F', 'F', 'F'),
-    ('F', 'U', 'F', 'U'),
-    ('U', 'T', 'U', 'T'),
-    ('U', 'F', 'F', 'U'),
-    ('U', 'U', 'U', 'U'),
-];
+const CONNECTED: &str = "\
+TTTT
+TFFT
+TUUT
+FTFT
+FFFF
+FUFU
+UTUT
+UFFU
+UUUU";
+
+fn connect_so(alloc: Global, line: &str) -> Result<bool, Fail> {
+    let mut truths = line.chars();
+    let a = truth(truths.next().ok_or("a truth")?);
+    let b = truth(truths.next().ok_or("a truth")?);
+    let both = truth(truths.next().ok_or("a truth")?);
+    let either = truth(truths.next().ok_or("a truth")?);
+    Ok(and_is(alloc, a, b, both)? && or_is(alloc, a, b, either)?)
+}
 
 #[test]
 fn and_and_or_are_three_valued(rt: HostRuntime) -> Result<(), Fail> {
-    for (a, b, both, either) in CONNECTED {
-        let all = Cond::All(pair(rt.alloc(), truth(a), truth(b))?);
-        assert!(rt; has_truth(rt.alloc(), &all, truth(both))?, "{a} AND {b}");
-        let any = Cond::Any(pair(rt.alloc(), truth(a), truth(b))?);
-        assert!(rt; has_truth(rt.alloc(), &any, truth(either))?, "{a} OR {b}");
+    for line in CONNECTED.lines() {
+        assert!(rt; connect_so(rt.alloc(), line)?, "{line}");
     }
     Ok(())
 }
@@ -316,78 +385,81 @@ fn not_and_is_take_each_truth(rt: HostRuntime) -> Result<(), Fail> {
     Ok(())
 }
 
+fn is_null_test(alloc: Global, case: &str, wanted: Truth) -> Result<bool, Fail> {
+    let c = Cond::IsNull(literal(alloc, case)?);
+    has_truth(alloc, &c, wanted)
+}
+
 #[test]
 fn is_null_is_never_unknown(rt: HostRuntime) -> Result<(), Fail> {
-    let alloc = rt.alloc();
-    for (a, wanted) in [("NULL", 'T'), ("0", 'F'), ("'", 'F'), ("wide 1", 'F')] {
-        let c = Cond::IsNull(literal(alloc, a)?);
-        assert!(rt; has_truth(alloc, &c, truth(wanted))?, "{a} IS NULL");
+    assert!(rt; is_null_test(rt.alloc(), "NULL", Truth::True)?);
+    for case in ["0", "'", "wide 1"] {
+        assert!(rt; is_null_test(rt.alloc(), case, Truth::False)?, "{case}");
     }
     Ok(())
 }
 
-fn is_like(alloc: Global, a: &str, pattern: &str, wanted: Truth) -> Result<bool, Fail> {
-    let c = Cond::Like(literal(alloc, a)?, literal(alloc, pattern)?);
-    has_truth(alloc, &c, wanted)
-}
+const LIKES: &str = "\
+' LIKE ' => T
+'a LIKE ' => F
+' LIKE '% => T
+' LIKE '_ => F
+'a LIKE '_ => T
+'ab LIKE '_ => F
+'é LIKE '_ => T
+'é LIKE '__ => F
+'éa LIKE '__ => T
+'ab LIKE '_b% => T
+'xb LIKE '_b% => T
+'éb1 LIKE '_b% => T
+'b LIKE '_b% => F
+'ac LIKE 'a%c => T
+'abbc LIKE 'a%c => T
+'abd LIKE 'a%c => F
+'aab LIKE '%ab => T
+'abab LIKE '%ab => T
+'aba LIKE '%ab => F
+'abab LIKE 'ab%ab => T
+'aba LIKE 'ab%ba => F
+'mississippi LIKE '%iss%_pi => T
+'mississippi LIKE '%ss%ss%ss% => F
+'A LIKE 'a => F
+'100% LIKE '100% => T
+'日本語 LIKE '%本_ => T
+'日本 LIKE '%本_ => F
+NULL LIKE '% => U
+' LIKE NULL => U
+NULL LIKE NULL => U
+1 LIKE '1 => U
+'1 LIKE 1 => U";
 
-const LIKES: [(&str, &str, char); 32] = [
-    ("'", "'", 'T'),
-    ("'a", "'", 'F'),
-    ("'", "'%", 'T'),
-    ("'", "'_", 'F'),
-    ("'a", "'_", 'T'),
-    ("'ab", "'_", 'F'),
-    ("'é", "'_", 'T'),
-    ("'é", "'__", 'F'),
-    ("'éa", "'__", 'T'),
-    ("'ab", "'_b%", 'T'),
-    ("'xb", "'_b%", 'T'),
-    ("'éb1", "'_b%", 'T'),
-    ("'b", "'_b%", 'F'),
-    ("'ac", "'a%c", 'T'),
-    ("'abbc", "'a%c", 'T'),
-    ("'abd", "'a%c", 'F'),
-    ("'aab", "'%ab", 'T'),
-    ("'abab", "'%ab", 'T'),
-    ("'aba", "'%ab", 'F'),
-    ("'abab", "'ab%ab", 'T'),
-    ("'aba", "'ab%ba", 'F'),
-    ("'mississippi", "'%iss%_pi", 'T'),
-    ("'mississippi", "'%ss%ss%ss%", 'F'),
-    ("'A", "'a", 'F'),
-    ("'100%", "'100%", 'T'),
-    ("'日本語", "'%本_", 'T'),
-    ("'日本", "'%本_", 'F'),
-    ("NULL", "'%", 'U'),
-    ("'", "NULL", 'U'),
-    ("NULL", "NULL", 'U'),
-    ("1", "'1", 'U'),
-    ("'1", "1", 'U'),
-];
+fn is_like(alloc: Global, line: &str) -> Result<bool, Fail> {
+    let (test, wanted) = line.split_once(" => ").ok_or("an arrow")?;
+    let (a, pattern) = test.split_once(" LIKE ").ok_or("a pattern")?;
+    let wanted = truth(wanted.chars().next().ok_or("a truth")?);
+    let (text, pattern) = literals(alloc, a, pattern)?;
+    has_truth(alloc, &Cond::Like(text, pattern), wanted)
+}
 
 #[test]
 fn like_goes_by_characters(rt: HostRuntime) -> Result<(), Fail> {
-    let alloc = rt.alloc();
-    for (a, pattern, wanted) in LIKES {
-        assert!(rt;
-            is_like(alloc, a, pattern, truth(wanted))?,
-            "{a} LIKE {pattern}"
-        );
+    for line in LIKES.lines() {
+        assert!(rt; is_like(rt.alloc(), line)?, "{line}");
     }
     Ok(())
 }
 
 // The piece, so many times, and then the end.
-fn repeated(alloc: Global, piece: &str, times: usize, end: &str) -> Result<Scalar, Fail> {
+fn repeated(alloc: Global, piece: &str, times: usize, end: &str) -> Result<Str, Fail> {
     let mut whole = String::new(alloc);
     for _ in 0..times {
         whole.push_str(piece)?;
     }
     whole.push_str(end)?;
-    Ok(Scalar::Lit(Value::Text(Str::from_text(alloc, whole.as_str())?)))
+    Ok(Str::from_text(alloc, whole.as_str())?)
 }
 
+// Whether a pattern of a piece so many times and an end has this truth of a text of 3,000 letters.
 fn is_long_like(
     alloc: Global,
     piece: &str,
@@ -395,24 +467,22 @@ fn is_long_like(
     end: &str,
     wanted: Truth,
 ) -> Result<bool, Fail> {
+    let text = repeated(alloc, "a", 3000, "")?;
     let pattern = repeated(alloc, piece, times, end)?;
-    let c = Cond::Like(repeated(alloc, "a", 3000, "")?, pattern);
+    let c = Cond::Like(
+        Scalar::Lit(Value::Text(text)),
+        Scalar::Lit(Value::Text(pattern)),
+    );
     has_truth(alloc, &c, wanted)
 }
 
-const LONG_LIKES: [(&str, usize, &str, char); 4] = [
-    ("%a", 200, "b", 'F'),
-    ("%a", 200, "%", 'T'),
-    ("%a_", 300, "%b%", 'F'),
-    ("%", 3000, "aab", 'F'),
-];
-
 #[test]
 fn like_tries_no_part_twice(rt: HostRuntime) -> Result<(), Fail> {
-    for (piece, times, end, wanted) in LONG_LIKES {
-        let found = is_long_like(rt.alloc(), piece, times, end, truth(wanted))?;
-        assert!(rt; found, "{piece} {times} {end}");
-    }
+    let alloc = rt.alloc();
+    assert!(rt; is_long_like(alloc, "%a", 200, "b", Truth::False)?);
+    assert!(rt; is_long_like(alloc, "%a", 200, "%", Truth::True)?);
+    assert!(rt; is_long_like(alloc, "%a_", 300, "%b%", Truth::False)?);
+    assert!(rt; is_long_like(alloc, "%", 3000, "aab", Truth::False)?);
     Ok(())
 }
 

@@ -32,57 +32,67 @@ fn shown(alloc: Global, script: &[u8]) -> Result<String, Fail> {
     }
 }
 
-const CASES: [(&[u8], &str); 31] = [
-    (b"", ""),
-    (b" \t\r\n", ""),
-    (
-        b"SELECT 9223372036854775808 FROM t;",
-        "the number at byte 7 is too great",
-    ),
-    (b"9223372036854775807", "0-19 number 9223372036854775807|"),
-    (b"00", "0-2 number 0|"),
-    (b"1a", "0-1 number 1|1-2 name a|"),
-    (b"a1", "0-2 name a1|"),
-    (b"T_9 tEXT", "0-3 name t_9|4-8 name text|"),
-    (b"a.b", "0-1 name a|1-2 Dot|2-3 name b|"),
-    (b"<>", "0-2 NotEqual|"),
-    (b"< >", "0-1 Less|2-3 Greater|"),
-    (
-        b"<<=>=>",
-        "0-1 Less|1-3 LessEqual|3-5 GreaterEqual|5-6 Greater|",
-    ),
-    (
-        b"(),;.*+/%=",
-        "0-1 ParenOpen|1-2 ParenClose|2-3 Comma|3-4 Semicolon|4-5 Dot|5-6 Star|6-7 Plus|7-8 Slash|8-9 Percent|9-10 Equal|",
-    ),
-    (b"- -", "0-1 Minus|2-3 Minus|"),
-    (b"a-1", "0-1 name a|1-2 Minus|2-3 number 1|"),
-    (b"a -- b", "0-1 name a|"),
-    (b"--\ra\nb", "5-6 name b|"),
-    (b"--x\n--", ""),
-    (b"'it''s'", "0-7 text it's|"),
-    (b"''", "0-2 text |"),
-    (b"''''", "0-4 text '|"),
-    (b"'a' 'b'", "0-3 text a|4-7 text b|"),
-    (b"a 'b '' c", "the text at byte 2 has no end"),
-    (b"'a' 'b ''", "the text at byte 4 has no end"),
-    (b"a ? ?", "no token begins at byte 2"),
-    (b"?'", "no token begins at byte 0"),
-    (
-        b"99999999999999999999 99999999999999999999",
-        "the number at byte 0 is too great",
-    ),
-    (b"'\xC3\xA4' ?", "no token begins at byte 5"),
-    (b"a\xFF \xFF", "not UTF-8 at byte 1"),
-    (b"'\xFF'", "not UTF-8 at byte 1"),
-    (b"-- \xC3", "not UTF-8 at byte 3"),
-];
+// The bytes that a case stands for: `~` is a line feed, `^` a carriage return, a grave accent a tab, `@` the byte 255
+// and `$` the byte 195.
+fn bytes_of(alloc: Global, case: &str) -> Result<Vec<u8>, Fail> {
+    let mut bytes = Vec::new(alloc);
+    for byte in case.bytes() {
+        bytes.push(match byte {
+            b'~' => b'\n',
+            b'^' => b'\r',
+            b'`' => b'\t',
+            b'@' => 0xFF,
+            b'$' => 0xC3,
+            other => other,
+        })?;
+    }
+    Ok(bytes)
+}
+
+const CASES: &str = "\
+\u{20}`^~ =>\u{20}
+SELECT 9223372036854775808 FROM t; => the number at byte 7 is too great
+9223372036854775807 => 0-19 number 9223372036854775807|
+00 => 0-2 number 0|
+1a => 0-1 number 1|1-2 name a|
+a1 => 0-2 name a1|
+T_9 tEXT => 0-3 name t_9|4-8 name text|
+a.b => 0-1 name a|1-2 Dot|2-3 name b|
+<> => 0-2 NotEqual|
+< > => 0-1 Less|2-3 Greater|
+<<=>=> => 0-1 Less|1-3 LessEqual|3-5 GreaterEqual|5-6 Greater|
+(),;.*+/%= => 0-1 ParenOpen|1-2 ParenClose|2-3 Comma|3-4 Semicolon|4-5 Dot|5-6 Star|6-7 Plus|7-8 Slash|8-9 Percent|9-10 Equal|
+- - => 0-1 Minus|2-3 Minus|
+a-1 => 0-1 name a|1-2 Minus|2-3 number 1|
+a -- b => 0-1 name a|
+--^a~b => 5-6 name b|
+--x~-- =>\u{20}
+'it''s' => 0-7 text it's|
+'' => 0-2 text |
+'''' => 0-4 text '|
+'a' 'b' => 0-3 text a|4-7 text b|
+a 'b '' c => the text at byte 2 has no end
+'a' 'b '' => the text at byte 4 has no end
+a ? ? => no token begins at byte 2
+?' => no token begins at byte 0
+99999999999999999999 99999999999999999999 => the number at byte 0 is too great
+'\u{E4}' ? => no token begins at byte 5
+a@ @ => not UTF-8 at byte 1
+'@' => not UTF-8 at byte 1
+-- $ => not UTF-8 at byte 3";
+
+// Whether the script before the arrow shows what stands behind it.
+fn reads_so(alloc: Global, line: &str) -> Result<bool, Fail> {
+    let (case, wanted) = line.split_once(" => ").ok_or("an arrow")?;
+    let script = bytes_of(alloc, case)?;
+    Ok(shown(alloc, script.as_slice())?.as_str() == wanted)
+}
 
 #[test]
 fn scripts_have_their_tokens_or_first_fault(rt: HostRuntime) -> Result<(), Fail> {
-    let alloc = rt.alloc();
-    for (script, wanted) in CASES {
-        assert_eq!(rt; shown(alloc, script)?.as_str(), wanted);
+    assert_eq!(rt; shown(rt.alloc(), b"")?.as_str(), "");
+    for line in CASES.lines() {
+        assert!(rt; reads_so(rt.alloc(), line)?, "{line}");
     }
     Ok(())
 }
