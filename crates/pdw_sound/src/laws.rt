@@ -3,6 +3,7 @@
 ghost use Rattle.pdw_algebra.specs.Meaning.{rows_of};
 ghost use Rattle.pdw_algebra.specs.WellFormed.{IsWellFormed};
 ghost use Rattle.pdw_syntax.specs.declared.query.Select.{Select as Written};
+ghost use Rattle.pdw_syntax.specs.declared.statement.Statement.{Statement};
 ghost use Rattle.pdw_syntax.specs.declared.statement.Statement.TheVariants as statement;
 ghost use Rattle.pdw_bind.specs.Bind.{bound};
 ghost use Rattle.pdw_form.specs.Sound.{HaveColumns, IsSound};
@@ -11,6 +12,7 @@ ghost use Rattle.pdw_catalog.specs.Database.{Database};
 ghost use Rattle.pdw_expr.specs.Rows.{key_of};
 ghost use Rattle.pdw_semantics.specs.Answer.{answer};
 ghost use Rattle.pdw_form.specs.Numbered.{outs_of};
+ghost use Rattle.pdw_walk.specs.Forms.{Judges};
 ghost use Rattle.pdw_walk.specs.Statements.{judgement};
 ghost use Rattle.pdw_form.specs.declared.judged.Judged.TheVariants as judged;
 ghost use Rattle.pdw_form.specs.declared.judged.JudgedQuery.{out-JudgedQuery};
@@ -19,8 +21,12 @@ ghost use Rattle.std.specs.Prelude.{◌≡◌, true, Ok, map};
 
 /// The law of the tree: where the judgement gives a SELECT its numbered form, that form is sound, its tree is well-formed
 /// over the tables, and the tree's rows, each read in the order of the items, are the rows of the SELECT, as lists.
-/// Tables have columns, as every appliance's have, and the SELECT is one that some text of the grammar means.
+/// Tables have columns, as every appliance's have, and the SELECT is one that some text of the grammar means. It holds of
+/// each statement that holds a SELECT: SELECT itself, EXPLAIN, EXPLAIN JSON, PROFILE and CHECK PLAN.
 pub fn the_tree_means_its_query()
+    ensures held_sound { (database : Database) (x : Statement) (s : Written) (j : Numbered) → HaveColumns database.tables → query_written s.query ≡ true → Judges database.tables x s j → IsSound database.tables j.query }
+    ensures held_well_formed { (database : Database) (x : Statement) (s : Written) (j : Numbered) → HaveColumns database.tables → query_written s.query ≡ true → Judges database.tables x s j → IsWellFormed database.tables (bound j.query) }
+    ensures held_rows { (database : Database) (x : Statement) (s : Written) (j : Numbered) → HaveColumns database.tables → query_written s.query ≡ true → Judges database.tables x s j → map (key_of (outs_of (out-JudgedQuery j.query).items)) (rows_of database (bound j.query)) ≡ answer database s }
     ensures sound { (database : Database) (s : Written) (j : Numbered) → HaveColumns database.tables → query_written s.query ≡ true → judgement database.tables (statement.Select s) ≡ Ok (judged.Select j) → IsSound database.tables j.query }
     ensures well_formed { (database : Database) (s : Written) (j : Numbered) → HaveColumns database.tables → query_written s.query ≡ true → judgement database.tables (statement.Select s) ≡ Ok (judged.Select j) → IsWellFormed database.tables (bound j.query) }
     ensures rows { (database : Database) (s : Written) (j : Numbered) → HaveColumns database.tables → query_written s.query ≡ true → judgement database.tables (statement.Select s) ≡ Ok (judged.Select j) → map (key_of (outs_of (out-JudgedQuery j.query).items)) (rows_of database (bound j.query)) ≡ answer database s }

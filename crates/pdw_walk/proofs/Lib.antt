@@ -2,3 +2,5 @@
 pub mod Outcomes
 -- Loops of the walk that were done, turn by turn
 pub mod Loops
+-- Each statement that holds a SELECT is judged by the walk of that SELECT
+pub mod HeldSelects

@@ -9,3 +9,4 @@ pub mod Conjuncts
 pub mod Items
 pub mod Queries
 pub mod Statements
+pub mod Forms
