@@ -9,7 +9,7 @@ ghost use Rattle.pdw_expr.specs.declared.cond.Cond.TheVariants as condition_is;
 ghost use Rattle.pdw_walk.specs.Conds as spec;
 ghost use Rattle.pdw_walk.specs.Exprs.{same_kind, expr as expr_walk};
 ghost use Rattle.pdw_walk.specs.Queries.{condition};
-ghost use Rattle.pdw_walk.specs.Walk.{Walks, each, gathering, over};
+ghost use Rattle.pdw_walk.specs.Walk.{Gives, Walks, each, gathering, over};
 
 use crate::exprs::expr;
 use crate::place::Place;
@@ -20,6 +20,7 @@ use pdw_syntax::{SqlCond, SqlExpr};
 use pdw_walk::{JudgeFault, Typed};
 use sqlite_items::{Boxed, Items as ListOf};
 use std::alloc::{AllocError, Global};
+use std::mem::drop;
 
 /// Whether two kinds are the same.
 pub fn is_same_kind(a: Kind, b: Kind) -> bool
@@ -42,26 +43,60 @@ fn negated_if(alloc: Global, negated: bool, cond: Cond) -> Result<Cond, AllocErr
     Ok(cond)
 }
 
-#[tactic(auto, unfolding(pdw_walk::specs::Conds::compared, pdw_walk::specs::Conds::comparison))]
+// Two operands that were walked, compared.
+#[tactic(auto, unfolding(pdw_walk::specs::Conds::comparison))]
+fn comparison(comparison: Cmp, left: Typed, right: Typed) -> Result<Cond, JudgeFault>
+    ensures { Gives (spec.comparison comparison left right) result }
+{
+    if is_same_kind(left.kind, right.kind) {
+        return Ok(Cond::Compare(comparison, left.scalar, right.scalar));
+    }
+    drop(left);
+    drop(right);
+    Err(JudgeFault::TypeMismatch)
+}
+
+#[tactic(auto, unfolding(pdw_walk::specs::Conds::compared))]
 fn compare(
     alloc: Global,
     walk: &mut Walk,
     place: &Place<'_>,
-    comparison: Cmp,
+    operator: Cmp,
     left: &SqlExpr,
     right: &SqlExpr,
 ) -> Result<Cond, JudgeFault>
-    ensures { Walks (spec.compared comparison left.now right.now place.now walk.old) result walk.new }
+    ensures { Walks (spec.compared operator left.now right.now place.now walk.old) result walk.new }
 {
-    let a = expr(alloc, walk, place, left)?;
-    let b = expr(alloc, walk, place, right)?;
-    if !is_same_kind(a.kind, b.kind) {
-        return Err(JudgeFault::TypeMismatch);
+    let first = expr(alloc, walk, place, left)?;
+    match expr(alloc, walk, place, right) {
+        Ok(second) => comparison(operator, first, second),
+        Err(fault) => {
+            drop(first);
+            Err(fault)
+        }
     }
-    Ok(Cond::Compare(comparison, a.scalar, b.scalar))
 }
 
-#[tactic(auto, unfolding(pdw_walk::specs::Conds::likened, pdw_walk::specs::Conds::like))]
+// A text and a pattern that were walked.
+#[tactic(auto, unfolding(pdw_walk::specs::Conds::like))]
+fn pattern_test(
+    alloc: Global,
+    negated: bool,
+    value: Typed,
+    pattern: Typed,
+) -> Result<Cond, JudgeFault>
+    ensures { Gives (spec.like negated value pattern) result }
+{
+    if is_same_kind(Kind::Text, value.kind) && is_same_kind(Kind::Text, pattern.kind) {
+        let made = Cond::Like(value.scalar, pattern.scalar);
+        return Ok(negated_if(alloc, negated, made)?);
+    }
+    drop(value);
+    drop(pattern);
+    Err(JudgeFault::TypeMismatch)
+}
+
+#[tactic(auto, unfolding(pdw_walk::specs::Conds::likened))]
 fn like(
     alloc: Global,
     walk: &mut Walk,
@@ -72,12 +107,14 @@ fn like(
 ) -> Result<Cond, JudgeFault>
     ensures { Walks (spec.likened negated value.now pattern.now place.now walk.old) result walk.new }
 {
-    let a = expr(alloc, walk, place, value)?;
-    let b = expr(alloc, walk, place, pattern)?;
-    if !is_same_kind(Kind::Text, a.kind) || !is_same_kind(Kind::Text, b.kind) {
-        return Err(JudgeFault::TypeMismatch);
+    let text = expr(alloc, walk, place, value)?;
+    match expr(alloc, walk, place, pattern) {
+        Ok(pattern) => pattern_test(alloc, negated, text, pattern),
+        Err(fault) => {
+            drop(text);
+            Err(fault)
+        }
     }
-    Ok(negated_if(alloc, negated, Cond::Like(a.scalar, b.scalar))?)
 }
 
 #[tactic(auto, unfolding(pdw_walk::specs::Conds::null_tested))]
@@ -90,31 +127,59 @@ fn is_null(
 ) -> Result<Cond, JudgeFault>
     ensures { Walks (spec.null_tested negated value.now place.now walk.old) result walk.new }
 {
-    let a = expr(alloc, walk, place, value)?;
-    Ok(negated_if(alloc, negated, Cond::IsNull(a.scalar))?)
+    let operand = expr(alloc, walk, place, value)?;
+    Ok(negated_if(alloc, negated, Cond::IsNull(operand.scalar))?)
 }
 
 // Both conditions.
 fn both(alloc: Global, first: Cond, second: Cond) -> Result<Cond, AllocError>
     ensures { IfOk result (λ made. made ≡ condition_is.All (first ∷ second ∷ [])) }
 {
-    let mut parts = ListOf::new(alloc);
-    parts.push(first)?;
-    parts.push(second)?;
-    Ok(Cond::All(parts))
+    let parts = Vec::from_array(alloc, [first, second])?;
+    Ok(Cond::All(ListOf::from_vec(parts)))
 }
 
 // value >= low AND value <= high
 fn range(alloc: Global, value: Scalar, low: Scalar, high: Scalar) -> Result<Cond, NoMemory>
     ensures { IfOk result (λ made. made ≡ condition_is.All (condition_is.Compare Ge value low ∷ condition_is.Compare Le value high ∷ [])) }
 {
-    let copy = value.try_copy(alloc)?;
-    let from = Cond::Compare(Cmp::Ge, copy, low);
-    let to = Cond::Compare(Cmp::Le, value, high);
-    Ok(both(alloc, from, to)?)
+    match value.try_copy(alloc) {
+        Ok(copy) => {
+            let from = Cond::Compare(Cmp::Ge, copy, low);
+            let to = Cond::Compare(Cmp::Le, value, high);
+            Ok(both(alloc, from, to)?)
+        }
+        Err(error) => {
+            drop(value);
+            drop(low);
+            drop(high);
+            Err(error)
+        }
+    }
 }
 
-#[tactic(auto, unfolding(pdw_walk::specs::Conds::ranged, pdw_walk::specs::Conds::between))]
+// A value and its bounds that were walked.
+#[tactic(auto, unfolding(pdw_walk::specs::Conds::between))]
+fn range_test(
+    alloc: Global,
+    negated: bool,
+    value: Typed,
+    low: Typed,
+    high: Typed,
+) -> Result<Cond, JudgeFault>
+    ensures { Gives (spec.between negated value low high) result }
+{
+    if is_same_kind(value.kind, low.kind) && is_same_kind(value.kind, high.kind) {
+        let made = range(alloc, value.scalar, low.scalar, high.scalar)?;
+        return Ok(negated_if(alloc, negated, made)?);
+    }
+    drop(value);
+    drop(low);
+    drop(high);
+    Err(JudgeFault::TypeMismatch)
+}
+
+#[tactic(auto, unfolding(pdw_walk::specs::Conds::ranged))]
 fn between(
     alloc: Global,
     walk: &mut Walk,
@@ -126,14 +191,21 @@ fn between(
 ) -> Result<Cond, JudgeFault>
     ensures { Walks (spec.ranged negated value.now low.now high.now place.now walk.old) result walk.new }
 {
-    let a = expr(alloc, walk, place, value)?;
-    let b = expr(alloc, walk, place, low)?;
-    let c = expr(alloc, walk, place, high)?;
-    if !is_same_kind(a.kind, b.kind) || !is_same_kind(a.kind, c.kind) {
-        return Err(JudgeFault::TypeMismatch);
+    let tested = expr(alloc, walk, place, value)?;
+    match expr(alloc, walk, place, low) {
+        Ok(low) => match expr(alloc, walk, place, high) {
+            Ok(high) => range_test(alloc, negated, tested, low, high),
+            Err(fault) => {
+                drop(tested);
+                drop(low);
+                Err(fault)
+            }
+        },
+        Err(fault) => {
+            drop(tested);
+            Err(fault)
+        }
     }
-    let made = range(alloc, a.scalar, b.scalar, c.scalar)?;
-    Ok(negated_if(alloc, negated, made)?)
 }
 
 #[tactic(auto, using(crate::proofs::Turns::turns))]
@@ -158,19 +230,48 @@ fn all_of_kind(wanted: Kind, values: &[Typed]) -> bool
     values.iter().all(|value| is_same_kind(wanted, value.kind))
 }
 
+fn equal(alloc: Global, value: &Scalar, other: &Scalar) -> Result<Cond, NoMemory>
+    ensures { IfOk result (λ made. made ≡ condition_is.Compare Eq value.now other.now) }
+{
+    let left = value.try_copy(alloc)?;
+    match other.try_copy(alloc) {
+        Ok(right) => Ok(Cond::Compare(Cmp::Eq, left, right)),
+        Err(error) => {
+            drop(left);
+            Err(error)
+        }
+    }
+}
+
 // value = a OR value = b, and so on
 fn any_equal(alloc: Global, value: &Scalar, values: &[Typed]) -> Result<Cond, NoMemory>
     ensures { IfOk result (λ made. made ≡ condition_is.Any (map (λ other. condition_is.Compare Eq value.now other.scalar) values.now)) }
 {
     let mut parts = ListOf::new(alloc);
     for other in values {
-        let left = value.try_copy(alloc)?;
-        parts.push(Cond::Compare(Cmp::Eq, left, other.scalar.try_copy(alloc)?))?;
+        parts.push(equal(alloc, value, &other.scalar)?)?;
     }
     Ok(Cond::Any(parts))
 }
 
-#[tactic(auto, unfolding(pdw_walk::specs::Conds::listed, pdw_walk::specs::Conds::in_list))]
+// A value and a list that were walked.
+#[tactic(auto, unfolding(pdw_walk::specs::Conds::in_list))]
+fn list_test(
+    alloc: Global,
+    negated: bool,
+    value: &Typed,
+    values: &[Typed],
+) -> Result<Cond, JudgeFault>
+    ensures { Gives (spec.in_list negated value.now values.now) result }
+{
+    if !all_of_kind(value.kind, values) {
+        return Err(JudgeFault::TypeMismatch);
+    }
+    let made = any_equal(alloc, &value.scalar, values)?;
+    Ok(negated_if(alloc, negated, made)?)
+}
+
+#[tactic(auto, unfolding(pdw_walk::specs::Conds::listed))]
 fn in_list(
     alloc: Global,
     walk: &mut Walk,
@@ -181,13 +282,13 @@ fn in_list(
 ) -> Result<Cond, JudgeFault>
     ensures { Walks (spec.listed negated value.now list.now place.now walk.old) result walk.new }
 {
-    let a = expr(alloc, walk, place, value)?;
-    let values = exprs(alloc, walk, place, list)?;
-    if !all_of_kind(a.kind, values.as_slice()) {
-        return Err(JudgeFault::TypeMismatch);
-    }
-    let made = any_equal(alloc, &a.scalar, values.as_slice())?;
-    Ok(negated_if(alloc, negated, made)?)
+    let tested = expr(alloc, walk, place, value)?;
+    let made = match exprs(alloc, walk, place, list) {
+        Ok(values) => list_test(alloc, negated, &tested, values.as_slice()),
+        Err(fault) => Err(fault),
+    };
+    drop(tested);
+    made
 }
 
 #[cycle(conditions)]

@@ -16,6 +16,7 @@ use pdw_syntax::{ColRef, SqlExpr};
 use pdw_walk::{JudgeFault, Numbered, Typed};
 use sqlite_items::{Boxed, Items as ListOf};
 use std::alloc::Global;
+use std::mem::drop;
 
 /// Whether an expression is of this kind.
 pub fn is_of_kind(wanted: Kind, value: &Typed) -> bool
@@ -86,8 +87,13 @@ fn with_sign(alloc: Global, minus: bool, value: Scalar) -> Result<Scalar, NoMemo
 fn signed(alloc: Global, minus: bool, value: Typed) -> Result<Typed, JudgeFault>
     ensures { Gives (spec.signed minus value) result }
 {
-    have_to_be(Kind::Int, &value)?;
-    Ok(typed(Kind::Int, with_sign(alloc, minus, value.scalar)?))
+    match have_to_be(Kind::Int, &value) {
+        Ok(()) => Ok(typed(Kind::Int, with_sign(alloc, minus, value.scalar)?)),
+        Err(fault) => {
+            drop(value);
+            Err(fault)
+        }
+    }
 }
 
 // Whether these operands are numbers.
@@ -120,11 +126,12 @@ fn scalars(alloc: Global, links: Vec<(Arith, Typed)>) -> Result<ListOf<(Arith, S
 fn chained(alloc: Global, first: Typed, rest: Vec<(Arith, Typed)>) -> Result<Typed, JudgeFault>
     ensures { Gives (spec.chained first rest.items) result }
 {
-    if !are_numbers(&first, rest.as_slice()) {
-        return Err(JudgeFault::TypeMismatch);
+    if are_numbers(&first, rest.as_slice()) {
+        let start = Boxed::new(alloc, first.scalar)?;
+        return Ok(typed(Kind::Int, Scalar::Chain(start, scalars(alloc, rest)?)));
     }
-    let start = Boxed::new(alloc, first.scalar)?;
-    Ok(typed(Kind::Int, Scalar::Chain(start, scalars(alloc, rest)?)))
+    drop(first);
+    Err(JudgeFault::TypeMismatch)
 }
 
 // Refuses an argument that the aggregate can't have.
@@ -157,13 +164,20 @@ fn made_aggregate(
 ) -> Result<Typed, JudgeFault>
     ensures { Walks (spec.made_aggregate aggregate argument value walk.old) result walk.new }
 {
-    let column = walk.made_number()?;
-    walk.add_aggregate(Agg {
-        kind: aggregate,
-        arg: value,
-        out: column.number,
-    })?;
-    Ok(column_typed(aggregate_kind(aggregate, argument), column))
+    match walk.made_number() {
+        Ok(column) => {
+            walk.add_aggregate(Agg {
+                kind: aggregate,
+                arg: value,
+                out: column.number,
+            })?;
+            Ok(column_typed(aggregate_kind(aggregate, argument), column))
+        }
+        Err(fault) => {
+            drop(value);
+            Err(fault)
+        }
+    }
 }
 
 // An aggregate of an argument that was walked.
@@ -171,8 +185,13 @@ fn made_aggregate(
 fn aggregate_of(walk: &mut Walk, aggregate: AggKind, argument: Typed) -> Result<Typed, JudgeFault>
     ensures { Walks (spec.aggregate_of aggregate argument walk.old) result walk.new }
 {
-    argument_fits(aggregate, &argument)?;
-    made_aggregate(walk, aggregate, argument.kind, Some(argument.scalar))
+    match argument_fits(aggregate, &argument) {
+        Ok(()) => made_aggregate(walk, aggregate, argument.kind, Some(argument.scalar)),
+        Err(fault) => {
+            drop(argument);
+            Err(fault)
+        }
+    }
 }
 
 // The place of an aggregate's argument.
