@@ -13,7 +13,7 @@ use Rattle.pdw_reading.specs.Reading.{Outcome, read, stopped, Reader, and_then, 
 use Rattle.pdw_reading.specs.ReadExprs.{expr, counted}
 use Rattle.pdw_reading.specs.ReadConds.{operand}
 use Rattle.pdw_reading.specs.ReadQueries.{query, among, source}
-use Rattle.pdw_reading.specs.Levels.{nested, content_by, inner_by}
+use Rattle.pdw_reading.specs.Levels.{nested, content_by, inner_by, opening}
 
 -- ---- the parenthesis that comes first
 
@@ -93,35 +93,62 @@ opened n wanted.Among ts = mapped content.Among (among (nested n)) ts
 opened n wanted.Query ts = mapped content.Query (query (nested n)) ts
 opened n wanted.Source ts = mapped content.Source (source (nested n)) ts
 
+-- ---- the parenthesis that opens
+
+pub unopened : (d : ℕ) (ts : List Lexeme) → sees (is_sign ParenOpen) ts ≡ false → opening d ts ≡ stopped Syntax ts
+unopened zero ts not = closed_unseen ts not
+unopened (suc n) ts not = ap (λ o. and_then o (λ u us. read n us)) (take_unseen (is_sign ParenOpen) ts not)
+
+pub one_too_many : (d : ℕ) (ts : List Lexeme) → d ≡ 0 → sees (is_sign ParenOpen) ts ≡ true → opening d ts ≡ stopped TooDeep ts
+one_too_many zero ts none is = closed_seen ts is
+one_too_many (suc n) ts none is = let no : ⊥ = omega (arith, none) in absurd no
+
+pub one_fewer : (d : ℕ) (ts : List Lexeme) → 0 < d → sees (is_sign ParenOpen) ts ≡ true → opening d ts ≡ read (d - 1) (drop 1 ts)
+one_fewer zero ts some is = let no : ⊥ = omega arith in absurd no
+one_fewer (suc n) ts some is =
+    let same : n ≡ suc n - 1 = omega arith in
+    ap (λ o. and_then o (λ u us. read n us)) (take_seen (is_sign ParenOpen) ts is).1 ∙ ap (λ k. read k (drop 1 ts)) same
+
+pub ruleset openings = (unopened, one_too_many, one_fewer)
+
 -- ---- the outcomes
 
-pub no_parenthesis : (d : ℕ) (w : Wanted) (ts : List Lexeme) → sees (is_sign ParenOpen) ts ≡ false → content_by (nested d) w ts ≡ stopped Syntax ts
-no_parenthesis zero w ts not = shut w ts ∙ closed_unseen ts not
-no_parenthesis (suc n) w ts not =
-    opened n w ts ∙ ap (λ o. and_then o (λ u us. and_then (inner_by (nested n) w us) finished)) (take_unseen (is_sign ParenOpen) ts not)
+-- what stands in the parentheses is read by how many more may be open there
+module _ (w : Wanted) where
+  abbrev body : ℕ → List Lexeme → Outcome Content
+  body n us = and_then (inner_by (nested n) w us) finished
 
-pub one_too_many : (d : ℕ) (w : Wanted) (ts : List Lexeme) → d ≡ 0 → sees (is_sign ParenOpen) ts ≡ true → content_by (nested d) w ts ≡ stopped TooDeep ts
-one_too_many zero w ts none is = shut w ts ∙ closed_seen ts is
-one_too_many (suc n) w ts none is = let no : ⊥ = omega (arith, none) in absurd no
+  nothing_read : (b : Bool) (ts : List Lexeme)
+      → (if b then stopped TooDeep ts else stopped Syntax ts) ≡ and_then (if b then stopped TooDeep ts else stopped Syntax ts) body
+  nothing_read true ts = refl
+  nothing_read false ts = refl
 
--- what stands in the parentheses is read one level down
-inside : (d : ℕ) (w : Wanted) (ts : List Lexeme) → 0 < d → sees (is_sign ParenOpen) ts ≡ true
-    → content_by (nested d) w ts ≡ and_then (inner_by (nested (d - 1)) w (drop 1 ts)) finished
-inside zero w ts some is = let no : ⊥ = omega arith in absurd no
-inside (suc n) w ts some is =
-    let first = take_seen (is_sign ParenOpen) ts is in
-    let same : n ≡ suc n - 1 = omega arith in
-    opened n w ts ∙ ap (λ o. and_then o (λ u us. and_then (inner_by (nested n) w us) finished)) first.1
-    ∙ ap (λ k. and_then (inner_by (nested k) w (drop 1 ts)) finished) same
+  none_inside : (ts : List Lexeme) → closed ts ≡ and_then (closed ts) body
+  unfolding closed
+  none_inside ts = nothing_read (sees (is_sign ParenOpen) ts) ts
 
-module _ (d : ℕ) (w : Wanted) (ts : List Lexeme) (some : 0 < d) (is : sees (is_sign ParenOpen) ts ≡ true) where
-  pub stops_inside : {why : Stop} {rest : List Lexeme} → inner_by (nested (d - 1)) w (drop 1 ts) ≡ stopped why rest → content_by (nested d) w ts ≡ stopped why rest
-  stops_inside stops = inside d w ts some is ∙ ap (λ o. and_then o finished) stops
+  told : (n : ℕ) (o : Outcome (Unit {0})) → and_then o (λ u us. body n us) ≡ and_then (and_then o (λ u us. read n us)) body
+  told n (read u us) = refl
+  told n (stopped why us) = refl
 
-  pub stops_after : {x : Content} {us rest : List Lexeme} {why : Stop} → inner_by (nested (d - 1)) w (drop 1 ts) ≡ read x us → take (is_sign ParenClose) us ≡ stopped why rest
-      → content_by (nested d) w ts ≡ stopped why rest
-  stops_after {x = x} reads stops = inside d w ts some is ∙ ap (λ o. and_then o finished) reads ∙ ap (λ o. and_then o (λ u vs. read x vs)) stops
+  inside : (d : ℕ) (ts : List Lexeme) → content_by (nested d) w ts ≡ and_then (opening d ts) body
+  inside zero ts = shut w ts ∙ none_inside ts
+  inside (suc n) ts = opened n w ts ∙ told n (take (is_sign ParenOpen) ts)
 
-  pub closes : {x : Content} {us rest : List Lexeme} {u : Unit {0}} → inner_by (nested (d - 1)) w (drop 1 ts) ≡ read x us → take (is_sign ParenClose) us ≡ read u rest
-      → content_by (nested d) w ts ≡ read x rest
-  closes {x = x} reads ends = inside d w ts some is ∙ ap (λ o. and_then o finished) reads ∙ ap (λ o. and_then o (λ u vs. read x vs)) ends
+module _ (d : ℕ) (w : Wanted) (ts : List Lexeme) where
+  pub stops_before : {why : Stop} {rest : List Lexeme} → opening d ts ≡ stopped why rest → content_by (nested d) w ts ≡ stopped why rest
+  stops_before stops = inside w d ts ∙ ap (λ o. and_then o (body w)) stops
+
+  module _ {n : ℕ} {us : List Lexeme} where
+    pub stops_inside : {why : Stop} {rest : List Lexeme} → opening d ts ≡ read n us → inner_by (nested n) w us ≡ stopped why rest → content_by (nested d) w ts ≡ stopped why rest
+    stops_inside opens stops = inside w d ts ∙ ap (λ o. and_then o (body w)) opens ∙ ap (λ o. and_then o finished) stops
+
+    pub stops_after : {x : Content} {vs rest : List Lexeme} {why : Stop} → opening d ts ≡ read n us → inner_by (nested n) w us ≡ read x vs
+        → take (is_sign ParenClose) vs ≡ stopped why rest → content_by (nested d) w ts ≡ stopped why rest
+    stops_after {x = x} opens reads stops =
+        inside w d ts ∙ ap (λ o. and_then o (body w)) opens ∙ ap (λ o. and_then o finished) reads ∙ ap (λ o. and_then o (λ u rest. read x rest)) stops
+
+    pub closes : {x : Content} {vs rest : List Lexeme} {u : Unit {0}} → opening d ts ≡ read n us → inner_by (nested n) w us ≡ read x vs
+        → take (is_sign ParenClose) vs ≡ read u rest → content_by (nested d) w ts ≡ read x rest
+    closes {x = x} opens reads ends =
+        inside w d ts ∙ ap (λ o. and_then o (body w)) opens ∙ ap (λ o. and_then o finished) reads ∙ ap (λ o. and_then o (λ u rest. read x rest)) ends

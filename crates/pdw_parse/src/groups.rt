@@ -1,7 +1,7 @@
 //! Parentheses, and what they hold.
 
-ghost use Rattle.std.specs.Prelude.{◌≡◌};
-ghost use Rattle.pdw_reading.specs.Levels.{Nests, content_by, inner_by, nested};
+ghost use Rattle.std.specs.Prelude.{◌≡◌, ◌<◌, IfOk};
+ghost use Rattle.pdw_reading.specs.Levels.{Nests, content_by, inner_by, nested, opening};
 ghost use Rattle.pdw_reading.specs.Reading.{Reads, closed};
 
 use crate::grammar::Grammar;
@@ -27,6 +27,22 @@ impl<F: Fn(Global, &mut Tokens<'_>, usize, Wanted) -> Result<Content, Stop>> Gra
     }
 }
 
+// The parenthesis that opens, where `depth` more may be open, and how many more may be open inside.
+#[tactic(auto, using(crate::proofs::GroupReads::openings))]
+fn open(tokens: &mut Tokens<'_>, depth: usize) -> Result<usize, Stop>
+    ensures reads { Reads (opening depth tokens.old) result tokens.new }
+    ensures fewer { IfOk result (λ inside. inside < depth) }
+{
+    if !tokens.sees_sign(Sign::ParenOpen) {
+        return Err(Stop::Syntax);
+    }
+    if depth == 0 {
+        return Err(Stop::TooDeep);
+    }
+    tokens.advance();
+    Ok(depth - 1)
+}
+
 /// A pair of parentheses with what is wanted in it, where `depth` more may be open.
 pub fn group(
     alloc: Global,
@@ -36,16 +52,9 @@ pub fn group(
 ) -> Result<Content, Stop>
     ensures { Reads (content_by (nested depth) wanted tokens.old) result tokens.new }
 {
-    if !tokens.sees_sign(Sign::ParenOpen) {
-        return Err(Stop::Syntax);
-    }
-    if depth == 0 {
-        return Err(Stop::TooDeep);
-    }
-    tokens.advance();
     let rules = Grammar {
         alloc,
-        depth: depth - 1,
+        depth: open(tokens, depth)?,
         group,
     };
     let content = rules.inner(tokens, wanted)?;

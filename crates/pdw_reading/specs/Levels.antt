@@ -3,13 +3,15 @@ use Rattle.std.specs.Prelude.{ℕ, zero, suc}
 use Rattle.std.specs.declared.alloc.Global.{Global}
 use denote.Ref.{MutBor}
 use Rattle.std.specs.Prelude.{List, Result}
+use Rattle.pdw_lex.specs.declared.sign.Sign.TheVariants.{ParenOpen}
 use Rattle.pdw_lex.specs.declared.token.Lexeme.{Lexeme}
+use Rattle.pdw_syntax.specs.Lexemes.{is_sign}
 use Rattle.pdw_reading.specs.declared.content.Content.{Content}
 use Rattle.pdw_reading.specs.declared.content.Content.TheVariants as content
 use Rattle.pdw_reading.specs.declared.content.Wanted.{Wanted}
 use Rattle.pdw_reading.specs.declared.content.Wanted.TheVariants as wanted
 use Rattle.pdw_reading.specs.declared.parse_error.Stop.{Stop}
-use Rattle.pdw_reading.specs.Reading.{Reader, Reads, ◌<$>◌, closed, enclosed}
+use Rattle.pdw_reading.specs.Reading.{Reader, Reads, ◌<$>◌, closed, enclosed, take}
 use Rattle.pdw_reading.specs.ReadExprs.{Nested, expr, counted}
 use Rattle.pdw_reading.specs.ReadConds.{operand}
 use Rattle.pdw_reading.specs.ReadQueries.{query, among, source}
@@ -24,6 +26,11 @@ nested_around g = record { expr = enclosed (expr g); counted = enclosed (counted
 unfoldable pub nested : ℕ → Nested
 nested zero = none_nested
 nested (suc n) = nested_around (nested n)
+
+-- the parenthesis that opens, where so many more may be open, and how many may be open inside
+abbrev pub opening : ℕ → Reader ℕ
+opening zero = closed
+opening (suc n) = (λ u. n) <$> take (is_sign ParenOpen)
 
 -- what is wanted in the parentheses
 abbrev pub content_by : Nested → Wanted → Reader Content
