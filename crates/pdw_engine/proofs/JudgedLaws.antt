@@ -1,9 +1,9 @@
 -- What the judgement of a statement that is executed says of the tables.
 use Rattle.std.proofs.Common.{◌≡◌, ℕ, zero, suc, ◌<◌, ◌≤◌, ◌==◌, Bool, true, false, leb, inl, inr, List, [], ◌∷◌, ◌++◌, length, get_or, position, AllPairs, Option, Some, None, is_some, IsSome, Result, Ok, Err, refl, sym, ◌∙◌, ap, subst, arith, append_assoc, append-nil}
 use Rattle.std.specs.Bool.{⊤}
-use Rattle.std.specs.List.{list_any}
+use Rattle.std.specs.List.{AllByRecursion, list_all, list_any}
 use Rattle.std.specs.Str.{bytes_eq}
-use Rattle.std.proofs.lemmas.Bool.{false≢true, or_parts}
+use Rattle.std.proofs.lemmas.Bool.{and_parts, false≢true, or_parts}
 use Rattle.std.proofs.lemmas.Bool.Decides.{leb_tells, Decides-eqb}
 use Rattle.std.proofs.lemmas.List.{length-append}
 use Rattle.std.proofs.lemmas.List.Quantifiers.{all_pairs_push, position-Some}
@@ -11,10 +11,12 @@ use Rattle.std.proofs.lemmas.Option.{none-some}
 use Rattle.pdw_syntax.specs.declared.query.Select.{Select}
 use Rattle.pdw_syntax.specs.declared.statement.Statement.{Statement}
 use Rattle.pdw_syntax.specs.declared.statement.Statement.TheVariants as s
-use Rattle.pdw_syntax.specs.Written.{some_columns, statement_written}
+use Rattle.pdw_base.specs.declared.value.Kind.{Kind}
+use Rattle.pdw_base.specs.declared.value.Kind.TheVariants as kind_is
+use Rattle.pdw_syntax.specs.Written.{column_written, is_type, some_columns, statement_written}
 use Rattle.pdw_catalog.specs.Appliance.{IsTable}
 use Rattle.pdw_catalog.specs.Catalog.{Tables, table_named}
-use Rattle.pdw_catalog.specs.Table.{IsPlaced}
+use Rattle.pdw_catalog.specs.Table.{IsPlaced, IsStoredKind}
 use Rattle.pdw_catalog.specs.declared.table.Column.{Column}
 use Rattle.pdw_catalog.specs.declared.table.Placing.{Placing}
 use Rattle.pdw_catalog.specs.declared.table.Placing.TheVariants.{Hash}
@@ -119,6 +121,15 @@ not_some : (found : Option Table) → is_some found ≡ false → found ≡ None
 not_some None e = refl
 not_some (Some table) e = absurd (false≢true (sym e))
 
+stored_kind : (kind : Kind) → is_type kind ≡ true → IsStoredKind kind
+stored_kind kind_is.Int e = tt
+stored_kind kind_is.Text e = tt
+stored_kind kind_is.Wide e = absurd (false≢true e)
+
+kinds_of : (columns : List Column) → list_all column_written columns ≡ true → AllByRecursion (λ (c : Column). IsStoredKind c.kind) columns
+kinds_of [] e = tt
+kinds_of (column ∷ columns) e = let both = and_parts (column_written column) (list_all column_written columns) e in (stored_kind column.kind both.0, kinds_of columns both.1)
+
 below : (a b : ℕ) → leb a b ≡ false → b < a
 below a b e = elim (leb_tells a b) [ inl h ↦ absurd (false≢true (sym e ∙ h.0)) | inr h ↦ omega arith ]
 
@@ -136,7 +147,7 @@ create_ready tables name columns hash w work w' e =
     let fit = columns_fit [] columns w checked.value checked.middle none_yet checked.begun in
     subst (IsReady tables (s.CreateNamed name columns hash)) (done_value room.1) (λ written. (
       not_some (table_named name tables) absent.0,
-      record { some = some_of columns written; most = fit.0; different = fit.1; placed = placed columns hash checked.middle found.value found.middle found.begun },
+      record { some = some_of columns (and_parts (some_columns columns) (list_all column_written columns) written).0; most = fit.0; different = fit.1; kinds = kinds_of columns (and_parts (some_columns columns) (list_all column_written columns) written).1; placed = placed columns hash checked.middle found.value found.middle found.begun },
       below MOST_TABLES (length tables) room.0,
     ))
 

@@ -1,11 +1,14 @@
 -- Every statement that the grammar gives is written whole: by the rules of the grammar, at any level of parentheses.
-use Rattle.std.proofs.Common.{◌≡◌, ℕ, ℤ, zero, suc, ◌+◌, leb, true, not, List, [], ◌∷◌, ◌++◌, length, map, Option, Some, None, refl, sym, subst}
+use Rattle.std.proofs.Common.{◌≡◌, ℕ, ℤ, zero, suc, ◌+◌, leb, Bool, true, false, not, List, [], ◌∷◌, ◌++◌, length, map, Option, Some, None, refl, sym, ap, subst, codes, if◌then◌else◌}
 use Rattle.std.specs.List.{AllByRecursion, list_all}
 use Rattle.std.proofs.lemmas.Bool.{and_parts, le-leb}
+use Rattle.std.specs.Str.{bytes_eq}
+use Rattle.pdw_base.specs.declared.value.Kind.{Kind}
+use Rattle.pdw_base.specs.declared.value.Kind.TheVariants as kind_is
 use Rattle.pdw_syntax.specs.Conds as conds
 use Rattle.pdw_syntax.specs.Exprs as exprs
 use Rattle.pdw_syntax.specs.Groups.{Groups}
-use Rattle.pdw_syntax.specs.Lexemes.{aggregate_of, key, text, text_of}
+use Rattle.pdw_syntax.specs.Lexemes.{aggregate_of, key, kind_of, text, text_of}
 use Rattle.pdw_syntax.specs.Texts.{IsWritten, groups, most_open, script}
 use Rattle.pdw_syntax.specs.Queries as queries
 use Rattle.pdw_syntax.specs.Rule.{Rule, ◌>>=◌, ◌>>◌, pure, One, Maybe, Many}
@@ -15,7 +18,7 @@ use Rattle.pdw_syntax.specs.declared.expr.SqlExpr.{SqlExpr}
 use Rattle.pdw_syntax.specs.declared.statement.Statement.{Statement}
 use Rattle.pdw_syntax.proofs.WrittenEquations.{aggregate_written, all_written, any_written, between_written, chain_written, col_written, compare_written, cond_written, count_written, cross_written, derived_written, exists_written, in_list_written, in_query_written, join_on_written, join_written, like_written, named_written, negated_written, null_written, number_written, paren_cond_written, paren_table_written, paren_written, primary_written, query_parts_written, signed_written, some_tables, table_reference_written, table_written, tested_written, text_written}
 use Rattle.pdw_syntax.proofs.WrittenRules.{Gives, Short, after, gives_both, gives_either, gives_enclosed, gives_listed, gives_many, gives_maybe, gives_nothing, gives_one, gives_some, passed, where_written}
-use Rattle.pdw_syntax.specs.Written.{counts_rows, expr_written, item_written, items_written, query_written, some_columns, some_items, statement_written}
+use Rattle.pdw_syntax.specs.Written.{column_written, counts_rows, expr_written, is_type, item_written, items_written, query_written, some_columns, some_items, statement_written}
 use Rattle.pdw_catalog.specs.declared.table.TheConstants.{MOST_TEXT_BYTES}
 use Rattle.pdw_expr.specs.declared.agg.AggKind.{AggKind}
 use Rattle.pdw_expr.specs.declared.scalar.Arith.{Arith}
@@ -229,9 +232,26 @@ module _ (g : Groups) (laws : GroupsWritten g) where
 
 -- ---- statements
 
+abbrev type_or : Option Kind → Bool
+type_or None = true
+type_or (Some kind) = is_type kind
+
+type_of_word : (l : Lexeme) (kind : Kind) → Short l → kind_of l ≡ Some kind → is_type kind ≡ true
+type_of_word (lexeme.Name n) kind short is = by (bytes_eq n (codes "int")) (bytes_eq n (codes "text")) is
+  where
+    by : (int text : Bool) → (if int then Some kind_is.Int else (if text then Some kind_is.Text else None)) ≡ Some kind → is_type kind ≡ true
+    by true text e = ap type_or (sym e)
+    by false true e = ap type_or (sym e)
+    by false false e = ap type_or (sym e)
+type_of_word _ kind short is = ap type_or (sym is)
+
+column_gives : Gives statements.column column_written
+column_gives = after (λ called. passed (gives_one type_of_word) (λ kind is. after (λ not_null. gives_nothing is)))
+
 create_gives : Gives statements.create statement_written
-create_gives = after (λ create. after (λ table. after (λ name. passed (gives_enclosed (gives_some {test = some_columns} (λ first rest. refl))) (λ columns some.
-    after (λ with. after (λ hash. gives_nothing some))))))
+create_gives = after (λ create. after (λ table. after (λ name.
+    passed (gives_enclosed (gives_both (gives_some {test = some_columns} (λ first rest. refl)) (gives_listed column_gives))) (λ columns are.
+    after (λ with. after (λ hash. gives_nothing are))))))
 
 statistics_written : (table : List ℕ) (handed : Option (ℤ × List (List ℕ × ℤ × ℤ))) → statement_written (statements.statistics_of table handed) ≡ true
 statistics_written table None = refl

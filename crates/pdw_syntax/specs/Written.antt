@@ -1,5 +1,5 @@
 -- What the grammar gives of every statement: texts that are not too long, aggregates that have the argument that they take,
--- at least one element of FROM and one item, and a table with a column.
+-- at least one element of FROM and one item, and a table with a column and with columns of INT and TEXT alone.
 use Rattle.std.specs.Prelude.{◌&&◌, leb, Bool, true, false, not, List, [], ◌∷◌, length, Option, Some, None}
 use Rattle.std.specs.List.{list_all}
 use Rattle.pdw_syntax.specs.declared.expr.SqlExpr.{SqlExpr}
@@ -14,6 +14,8 @@ use Rattle.pdw_syntax.specs.declared.query.Primary.TheOpen.{Primary-F, SqlCond-F
 use Rattle.pdw_syntax.specs.declared.query.Query.{Query}
 use Rattle.pdw_syntax.specs.declared.statement.Statement.{Statement}
 use Rattle.pdw_syntax.specs.declared.statement.Statement.TheVariants as statement
+use Rattle.pdw_base.specs.declared.value.Kind.{Kind}
+use Rattle.pdw_base.specs.declared.value.Kind.TheVariants as kind
 use Rattle.pdw_catalog.specs.declared.table.Column.{Column}
 use Rattle.pdw_catalog.specs.declared.table.TheConstants.{MOST_TEXT_BYTES}
 use Rattle.pdw_expr.specs.declared.agg.AggKind.{AggKind}
@@ -104,9 +106,18 @@ abbrev pub some_columns : List Column → Bool
 some_columns [] = false
 some_columns (first ∷ rest) = true
 
+-- INT and TEXT are the types of columns
+abbrev pub is_type : Kind → Bool
+is_type kind.Int = true
+is_type kind.Text = true
+is_type kind.Wide = false
+
+abbrev pub column_written : Column → Bool
+column_written column = is_type column.kind
+
 -- what the grammar gives of every statement
 abbrev pub statement_written : Statement → Bool
-statement_written (statement.CreateNamed table columns hash) = some_columns columns
+statement_written (statement.CreateNamed table columns hash) = some_columns columns && list_all column_written columns
 statement_written (statement.Select s) = query_written s.query
 statement_written (statement.Explain s) = query_written s.query
 statement_written (statement.ExplainJson s) = query_written s.query
