@@ -7,7 +7,7 @@ ghost use Rattle.pdw_catalog.specs.Catalog.{table_named};
 ghost use Rattle.pdw_walk.specs.Conds.{tested as tested_spec};
 ghost use Rattle.pdw_walk.specs.Froms as spec;
 ghost use Rattle.pdw_walk.specs.Queries.{condition};
-ghost use Rattle.pdw_walk.specs.Walk.{Walks};
+ghost use Rattle.pdw_walk.specs.Walk.{Walks, and_then, pure, take_alias};
 ghost use Rattle.pdw_walk.specs.declared.fault.TheConstants.{MOST_USED};
 
 use pdw_base::{ColId, NoMemory, Str};
@@ -179,6 +179,19 @@ fn derived_entries(
     Ok(entries)
 }
 
+// The columns of a derived table, whose alias is taken.
+fn derived_scope(
+    alloc: Global,
+    walk: &mut Walk,
+    alias: &Str,
+    outputs: &[Column],
+) -> Result<ListOf<Entry>, JudgeFault>
+    ensures { Walks (and_then (take_alias alias.now walk.old) (λ _. pure (map (spec.derived_entry alias.now) outputs.now))) result walk.new }
+{
+    walk.take_alias(alloc, alias)?;
+    Ok(derived_entries(alloc, alias, outputs)?)
+}
+
 /// A derived table, when its query was walked.
 #[tactic(auto, unfolding(pdw_walk::specs::Froms::derived_walk))]
 pub fn derived(
@@ -189,12 +202,16 @@ pub fn derived(
 ) -> Result<Element, JudgeFault>
     ensures { Walks (spec.derived_walk alias.now walked walk.old) result walk.new }
 {
-    walk.take_alias(alloc, alias)?;
-    let entries = derived_entries(alloc, alias, walked.outputs.as_slice())?;
-    Ok(Element {
-        draft: Draft::Derived(walked.query),
-        entries,
-    })
+    match derived_scope(alloc, walk, alias, walked.outputs.as_slice()) {
+        Ok(entries) => Ok(Element {
+            draft: Draft::Derived(walked.query),
+            entries,
+        }),
+        Err(fault) => {
+            drop(walked);
+            Err(fault)
+        }
+    }
 }
 
 // The condition of ON, which sees the columns of the join's two sides.
@@ -278,8 +295,8 @@ pub fn with_element(before: Sources, element: Element) -> Result<Sources, AllocE
         mut own,
         mut drafts,
     } = before;
-    own.append(element.entries)?;
     drafts.push(element.draft)?;
+    own.append(element.entries)?;
     Ok(Sources { own, drafts })
 }
 
@@ -344,12 +361,12 @@ pub fn finished(alloc: Global, numbers: &[Slot], draft: Draft) -> Result<JFrom, 
             right,
             on,
         } => {
-            let left = finished(alloc, numbers, left.into_inner())?;
-            let right = finished(alloc, numbers, right.into_inner())?;
+            let left = Boxed::new(alloc, finished(alloc, numbers, left.into_inner())?)?;
+            let right = Boxed::new(alloc, finished(alloc, numbers, right.into_inner())?)?;
             Ok(JFrom::Join {
                 word,
-                left: Boxed::new(alloc, left)?,
-                right: Boxed::new(alloc, right)?,
+                left,
+                right,
                 on,
             })
         }

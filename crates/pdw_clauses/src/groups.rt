@@ -1,13 +1,14 @@
 //! GROUP BY, HAVING and the end of a query: SQL-92, 7.7 to 7.9.
 
-ghost use Rattle.std.specs.Prelude.{◌≡◌, ◌≤◌, length, map, IfOk};
+ghost use Rattle.std.specs.Prelude.{◌≡◌, ◌≤◌, [], length, map, IfOk, OnOk};
 ghost use Rattle.std.specs.Option.{option_copied};
 ghost use Rattle.pdw_walk.specs.Conds.{tested as tested_walk};
 ghost use Rattle.pdw_walk.specs.Conjuncts as conjunct;
 ghost use Rattle.pdw_walk.specs.Items as item;
 ghost use Rattle.pdw_walk.specs.Queries as spec;
 ghost use Rattle.pdw_walk.specs.Queries.{text};
-ghost use Rattle.pdw_walk.specs.Walk.{Walks};
+ghost use Rattle.pdw_walk.specs.Froms.{finished};
+ghost use Rattle.pdw_walk.specs.Walk.{Gives, Walks, with_aggs};
 
 use crate::froms::all_finished;
 use crate::select_list::{items, repeated_name};
@@ -16,9 +17,10 @@ use pdw_expr::{Agg, Cond};
 use pdw_form::{JFrom, JGroup, JudgedQuery};
 use pdw_resolve::{Place, Walk, column, tested};
 use pdw_syntax::{ColRef, Query};
-use pdw_walk::{Conjuncts, Draft, Entry, JudgeFault, Met, Outputs, Role, Slot, Walked};
+use pdw_walk::{Column, Conjuncts, Draft, Entry, JudgeFault, Met, Outputs, Role, Slot, Walked};
 use sqlite_items::Items as ListOf;
 use std::alloc::{AllocError, Global};
+use std::mem::drop;
 
 /// A query whose FROM was walked.
 #[derive(Drop)]
@@ -117,6 +119,25 @@ fn walked_query(
     }
 }
 
+// FROM and the grouping, when all used columns and aggregates are known.
+fn from_and_group(
+    alloc: Global,
+    walk: &mut Walk,
+    is_grouped: bool,
+    drafts: Vec<Draft>,
+    keys: &[Met],
+    having: ListOf<Cond>,
+) -> Result<(ListOf<JFrom>, Option<JGroup>), AllocError>
+    ensures from { IfOk result (λ made. made.0 ≡ map (finished walk.old.numbers) drafts.items) }
+    ensures group { IfOk result (λ made. made.1 ≡ spec.group_of is_grouped keys.now walk.old.aggs having) }
+    ensures walk { OnOk result (walk.new ≡ with_aggs [] walk.old) }
+{
+    let from = all_finished(alloc, walk.numbers(), drafts)?;
+    let aggs = walk.take_aggs(alloc);
+    let group = group_of(alloc, is_grouped, keys, aggs, having)?;
+    Ok((from, group))
+}
+
 #[tactic(auto, unfolding(pdw_walk::specs::Queries::finish))]
 fn finish(
     alloc: Global,
@@ -134,10 +155,24 @@ fn finish(
         keys,
         having,
     } = parts;
-    let from = all_finished(alloc, walk.numbers(), drafts)?;
-    let aggs = walk.take_aggs(alloc);
-    let group = group_of(alloc, is_grouped, keys.as_slice(), aggs, having)?;
-    Ok(walked_query(distinct, from, filters, group, outputs))
+    match from_and_group(alloc, walk, is_grouped, drafts, keys.as_slice(), having) {
+        Ok((from, group)) => Ok(walked_query(distinct, from, filters, group, outputs)),
+        Err(_) => {
+            drop(filters);
+            drop(outputs);
+            Err(JudgeFault::Memory)
+        }
+    }
+}
+
+// Refuses output names that repeat where they have to differ.
+fn names_differ(alloc: Global, role: Role, columns: &[Column]) -> Result<(), JudgeFault>
+    ensures { Gives (item.refuse_repeated (item.repeated_name role columns.now)) result }
+{
+    match repeated_name(alloc, role, columns)? {
+        Some(name) => Err(JudgeFault::DuplicateName(name)),
+        None => Ok(()),
+    }
 }
 
 #[tactic(auto, unfolding(pdw_walk::specs::Queries::after_items))]
@@ -150,17 +185,21 @@ fn after_items(
 ) -> Result<Walked, JudgeFault>
     ensures { Walks (spec.after_items (text frame.now.query.now) frame.now.role frame.now.outers.now frame.now.own.now frame.now.is_grouped parts.drafts.items parts.filters parts.keys parts.having outputs walk.old) result walk.new }
 {
-    if let Some(name) = repeated_name(alloc, frame.role, outputs.columns.as_slice())? {
-        return Err(JudgeFault::DuplicateName(name));
+    match names_differ(alloc, frame.role, outputs.columns.as_slice()) {
+        Ok(()) => finish(
+            alloc,
+            walk,
+            frame.query.distinct,
+            frame.is_grouped,
+            parts,
+            outputs,
+        ),
+        Err(fault) => {
+            drop(parts);
+            drop(outputs);
+            Err(fault)
+        }
     }
-    finish(
-        alloc,
-        walk,
-        frame.query.distinct,
-        frame.is_grouped,
-        parts,
-        outputs,
-    )
 }
 
 fn slots_of(slots: &Option<ListOf<Slot>>) -> Option<&[Slot]>
@@ -241,8 +280,13 @@ fn after_having(
 ) -> Result<Walked, JudgeFault>
     ensures { Walks (spec.after_having (text frame.now.query.now) frame.now.role frame.now.outers.now frame.now.own.now frame.now.is_grouped parts.drafts.items parts.filters parts.keys parts.having walk.old) result walk.new }
 {
-    let outputs = grouped_items(alloc, walk, frame, parts.keys.as_slice())?;
-    after_items(alloc, walk, frame, parts, outputs)
+    match grouped_items(alloc, walk, frame, parts.keys.as_slice()) {
+        Ok(outputs) => after_items(alloc, walk, frame, parts, outputs),
+        Err(fault) => {
+            drop(parts);
+            Err(fault)
+        }
+    }
 }
 
 #[tactic(auto, unfolding(pdw_walk::specs::Queries::after_keys))]

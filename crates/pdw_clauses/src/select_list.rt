@@ -1,9 +1,9 @@
 //! The items of a query: SQL-92, 7.9.
 
-ghost use Rattle.std.specs.Prelude.{◌≡◌, ◌==◌, [], ◌++◌, codes, length, map, IfOk};
+ghost use Rattle.std.specs.Prelude.{◌≡◌, ◌==◌, [], ◌∷◌, ◌++◌, codes, length, map, IfOk};
 ghost use Rattle.std.specs.Option.{option_copied};
 ghost use Rattle.pdw_walk.specs.Items as spec;
-ghost use Rattle.pdw_walk.specs.Walk.{Walks, is_among, over};
+ghost use Rattle.pdw_walk.specs.Walk.{Walks, and_then, is_among, made_number, over, pure};
 ghost use Rattle.pdw_walk.specs.declared.fault.JudgeFault.TheVariants as fault;
 ghost use Rattle.pdw_walk.specs.declared.fault.LimitName.TheVariants as limit;
 ghost use Rattle.pdw_walk.specs.declared.fault.TheConstants.{MOST_ITEMS as MostItems};
@@ -17,7 +17,8 @@ use pdw_walk::{
     Column, Entry, JudgeFault, LimitName, MOST_ITEMS, Numbered, Outputs, Role, Slot, Typed,
 };
 use sqlite_items::Items as ListOf;
-use std::alloc::Global;
+use std::alloc::{AllocError, Global};
+use std::mem::drop;
 
 // Whether there is no room for one output column more.
 fn is_full(before: &Outputs) -> bool
@@ -44,6 +45,20 @@ fn no_outputs(alloc: Global) -> Outputs
     }
 }
 
+// An item and the column that it shows after those before them.
+fn with_item(before: Outputs, item: JItem, column: Column) -> Result<Outputs, AllocError>
+    ensures items { IfOk result (λ more. more.items ≡ before.items ++ item ∷ []) }
+    ensures columns { IfOk result (λ more. more.columns ≡ before.columns ++ column ∷ []) }
+{
+    let Outputs {
+        mut items,
+        mut columns,
+    } = before;
+    items.push(item)?;
+    columns.push(column)?;
+    Ok(Outputs { items, columns })
+}
+
 // One output column more.
 fn with_output(
     alloc: Global,
@@ -55,22 +70,25 @@ fn with_output(
 ) -> Result<Outputs, NoMemory>
     ensures { IfOk result (λ more. more ≡ spec.with_output before name kind column make) }
 {
-    let shown = Column {
-        name: name.try_copy(alloc)?,
-        kind,
-        slot: column.slot,
-    };
-    let Outputs {
-        mut items,
-        mut columns,
-    } = before;
-    columns.push(shown)?;
-    items.push(JItem {
-        name,
-        out: column.number,
-        make,
-    })?;
-    Ok(Outputs { items, columns })
+    match name.try_copy(alloc) {
+        Ok(copy) => {
+            let item = JItem {
+                name,
+                out: column.number,
+                make,
+            };
+            let shown = Column {
+                name: copy,
+                kind,
+                slot: column.slot,
+            };
+            Ok(with_item(before, item, shown)?)
+        }
+        Err(error) => {
+            drop(make);
+            Err(error)
+        }
+    }
 }
 
 // A column of `*` or `a.*`.
@@ -179,6 +197,26 @@ fn alias_star(
     Err(JudgeFault::UnknownColumn(starred(alloc, alias)?))
 }
 
+// A computed item, which gets the next number.
+fn computed_output(
+    alloc: Global,
+    walk: &mut Walk,
+    name: Str,
+    kind: Kind,
+    value: Scalar,
+    before: Outputs,
+) -> Result<Outputs, JudgeFault>
+    ensures { Walks (and_then (made_number walk.old) (λ column. pure (spec.with_output before name kind column (Some value)))) result walk.new }
+{
+    match walk.made_number() {
+        Ok(column) => Ok(with_output(alloc, before, name, kind, column, Some(value))?),
+        Err(fault) => {
+            drop(value);
+            Err(fault)
+        }
+    }
+}
+
 // A bare column or aggregate is passed through; anything else gets the next number.
 fn made_output(
     alloc: Global,
@@ -191,11 +229,7 @@ fn made_output(
 {
     match value.bare {
         Some(column) => Ok(with_output(alloc, before, name, value.kind, column, None)?),
-        None => {
-            let column = walk.made_number()?;
-            let make = Some(value.scalar);
-            Ok(with_output(alloc, before, name, value.kind, column, make)?)
-        }
+        None => { computed_output(alloc, walk, name, value.kind, value.scalar, before) }
     }
 }
 
