@@ -12,6 +12,7 @@ use pdw_syntax::{OrderKey, OrderName};
 use pdw_walk::{Column, JudgeFault, Walked};
 use sqlite_items::Items as ListOf;
 use std::alloc::Global;
+use std::mem::drop;
 
 // Where the first output column of this name stands.
 fn first_place(outputs: &[Column], name: &Str) -> Option<usize>
@@ -93,9 +94,14 @@ pub fn ordered(
 ) -> Result<JudgedSelect, JudgeFault>
     ensures { Walks (spec.ordered order.now walked beginning) result beginning }
 {
-    let order = order_keys(alloc, walked.outputs.as_slice(), order)?;
-    Ok(JudgedSelect {
-        query: walked.query,
-        order,
-    })
+    match order_keys(alloc, walked.outputs.as_slice(), order) {
+        Ok(order) => Ok(JudgedSelect {
+            query: walked.query,
+            order,
+        }),
+        Err(fault) => {
+            drop(walked);
+            Err(fault)
+        }
+    }
 }

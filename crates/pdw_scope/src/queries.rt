@@ -8,7 +8,7 @@ ghost use Rattle.pdw_walk.specs.Froms as from;
 ghost use Rattle.pdw_walk.specs.Conjuncts as conjunct;
 ghost use Rattle.pdw_walk.specs.Queries as spec;
 ghost use Rattle.pdw_walk.specs.Queries.{condition, text};
-ghost use Rattle.pdw_walk.specs.Walk.{Walks, over};
+ghost use Rattle.pdw_walk.specs.Walk.{Gives, Walks, over};
 
 use pdw_base::Str;
 use pdw_catalog::Catalog;
@@ -22,6 +22,7 @@ use pdw_syntax::{JoinPart, Primary, Query, SqlCond, SqlExpr, TableRef};
 use pdw_walk::{Conjuncts, Element, Entry, JudgeFault, Role, Typed, Walked};
 use sqlite_items::Items as ListOf;
 use std::alloc::Global;
+use std::mem::drop;
 
 // The left side of IN, which sees the columns of the query's own FROM.
 fn left_side(
@@ -56,8 +57,25 @@ fn subquery(
     query(alloc, around.catalog, walk, inner, role, scopes.as_slice())
 }
 
+// The two sides of IN, when they were walked.
+#[tactic(auto, unfolding(pdw_walk::specs::Conjuncts::in_subquery))]
+fn in_subquery(negated: bool, left: Typed, walked: Walked) -> Result<JSub, JudgeFault>
+    ensures { Gives (conjunct.in_subquery negated left walked) result }
+{
+    if is_one_column(left.kind, walked.outputs.as_slice()) {
+        return Ok(JSub {
+            negated,
+            left: Some(left.scalar),
+            query: walked.query,
+        });
+    }
+    drop(left);
+    drop(walked);
+    Err(JudgeFault::TypeMismatch)
+}
+
 #[cycle(walk)]
-#[tactic(auto, unfolding(pdw_walk::specs::Conjuncts::in_walk, pdw_walk::specs::Conjuncts::in_subquery))]
+#[tactic(auto, unfolding(pdw_walk::specs::Conjuncts::in_walk))]
 fn in_query(
     alloc: Global,
     walk: &mut Walk,
@@ -69,15 +87,13 @@ fn in_query(
     ensures { Walks (conjunct.in_walk around.now (expr_walk value.now) negated (spec.query_walk inner.now) walk.old) result walk.new }
 {
     let left = left_side(alloc, walk, around, value)?;
-    let walked = subquery(alloc, walk, around, inner, Role::In)?;
-    if !is_one_column(left.kind, walked.outputs.as_slice()) {
-        return Err(JudgeFault::TypeMismatch);
+    match subquery(alloc, walk, around, inner, Role::In) {
+        Ok(walked) => in_subquery(negated, left, walked),
+        Err(fault) => {
+            drop(left);
+            Err(fault)
+        }
     }
-    Ok(JSub {
-        negated,
-        left: Some(left.scalar),
-        query: walked.query,
-    })
 }
 
 #[cycle(walk)]
@@ -111,8 +127,13 @@ fn in_conjunct(
 ) -> Result<Conjuncts, JudgeFault>
     ensures { Walks (conjunct.subquery_conjunct around.now before (Some (expr_walk value.now)) negated (spec.query_walk inner.now) walk.old) result walk.new }
 {
-    let sub = in_query(alloc, walk, around, inner, value, negated)?;
-    Ok(with_subquery(before, sub)?)
+    match in_query(alloc, walk, around, inner, value, negated) {
+        Ok(sub) => Ok(with_subquery(before, sub)?),
+        Err(fault) => {
+            drop(before);
+            Err(fault)
+        }
+    }
 }
 
 #[cycle(walk)]
@@ -126,8 +147,13 @@ fn exists_conjunct(
 ) -> Result<Conjuncts, JudgeFault>
     ensures { Walks (conjunct.subquery_conjunct around.now before None negated (spec.query_walk inner.now) walk.old) result walk.new }
 {
-    let sub = exists(alloc, walk, around, inner, negated)?;
-    Ok(with_subquery(before, sub)?)
+    match exists(alloc, walk, around, inner, negated) {
+        Ok(sub) => Ok(with_subquery(before, sub)?),
+        Err(fault) => {
+            drop(before);
+            Err(fault)
+        }
+    }
 }
 
 // A conjunct that is NOT over this part.
@@ -279,8 +305,13 @@ fn join(
 ) -> Result<Element, JudgeFault>
     ensures { Walks (spec.join part.now catalog.now outers.now left walk.old) result walk.new }
 {
-    let right = element(alloc, catalog, walk, &part.right, outers)?;
-    joined(alloc, walk, outers, part.word, &part.on, left, right)
+    match element(alloc, catalog, walk, &part.right, outers) {
+        Ok(right) => joined(alloc, walk, outers, part.word, &part.on, left, right),
+        Err(fault) => {
+            drop(left);
+            Err(fault)
+        }
+    }
 }
 
 #[cycle(walk)]
@@ -329,8 +360,13 @@ fn source(
 ) -> Result<Sources, JudgeFault>
     ensures { Walks (from.source catalog.now outers.now before (spec.table_ref table.now) walk.old) result walk.new }
 {
-    let next = joined_table(alloc, catalog, walk, table, outers)?;
-    Ok(with_element(before, next)?)
+    match joined_table(alloc, catalog, walk, table, outers) {
+        Ok(next) => Ok(with_element(before, next)?),
+        Err(fault) => {
+            drop(before);
+            Err(fault)
+        }
+    }
 }
 
 // The elements of FROM.
