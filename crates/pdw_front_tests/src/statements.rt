@@ -9,6 +9,7 @@ use std::alloc::Global;
 use std::test::Fail;
 
 /// Scripts with what they show behind an arrow, one on each line, and what stands before and after each of both.
+#[derive(Clone, Copy)]
 struct Table {
     lines: &'static str,
     head: &'static str,
