@@ -1,17 +1,22 @@
+//! Why a statement is refused, and the limits of statements, of settings and of statistics.
+
+ghost use Rattle.std.specs.Prelude.{◌≡◌};
+
+use pdw_base as limits;
 use pdw_base::{NoMemory, Str};
 use std::alloc::{AllocError, AllocFailed};
 
 /// The greatest number of table names in the FROM clauses of a statement.
-pub const MOST_REFERENCES: usize = 10;
+pub const MOST_REFERENCES: usize = limits::MOST_REFERENCES;
 
 /// The greatest number of used columns, computed items and aggregates of a statement.
-pub const MOST_USED: usize = 128;
+pub const MOST_USED: usize = limits::MOST_USED;
 
 /// The greatest number of output columns of a query.
-pub const MOST_ITEMS: usize = 128;
+pub const MOST_ITEMS: usize = limits::MOST_ITEMS;
 
 /// The greatest number of queries of a statement.
-pub const MOST_QUERIES: usize = 64;
+pub const MOST_QUERIES: usize = limits::MOST_QUERIES;
 
 /// The greatest budget of exploration. The least is 1.
 pub const MOST_BUDGET: usize = 100_000;
@@ -24,6 +29,22 @@ pub const MOST_STATISTIC: usize = 1_000_000_000_000;
 
 /// The greatest width of a column in statistics, in bytes. The least is 1.
 pub const MOST_WIDTH: usize = 1_000;
+
+/// The limits of a statement.
+pub fn limits_of_statements_are_these()
+    ensures references { MOST_REFERENCES ≡ 10 }
+    ensures used { MOST_USED ≡ 128 }
+    ensures items { MOST_ITEMS ≡ 128 }
+    ensures queries { MOST_QUERIES ≡ 64 }
+{}
+
+/// The limits of settings and of statistics that are handed over.
+pub fn limits_of_settings_are_these()
+    ensures budget { MOST_BUDGET ≡ 100000 }
+    ensures cost { MOST_COST ≡ 1000 }
+    ensures statistic { MOST_STATISTIC ≡ 1000000000000 }
+    ensures width { MOST_WIDTH ≡ 1000 }
+{}
 
 /// Why a statement is refused by its words and the tables that there are. Names are in lower case, with their alias
 /// and a dot before them where that is written.

@@ -9,5 +9,6 @@ pub use entry::{
 };
 pub use fault::{
     JudgeFault, LimitName, MOST_BUDGET, MOST_COST, MOST_ITEMS, MOST_QUERIES, MOST_REFERENCES,
-    MOST_STATISTIC, MOST_USED, MOST_WIDTH,
+    MOST_STATISTIC, MOST_USED, MOST_WIDTH, limits_of_settings_are_these,
+    limits_of_statements_are_these,
 };
