@@ -1,7 +1,6 @@
 //! Names of a statement resolved to numbers: column references, expressions and search conditions.
 #![tactic(auto)]
 
-mod columns;
 mod conds;
 mod exprs;
 mod lookup;
@@ -10,7 +9,6 @@ mod place;
 mod text;
 mod walk;
 
-pub use columns::{kept_place, place_of_column};
 pub use conds::{is_nested, is_same_kind, test, tested};
 pub use exprs::expr;
 pub use lookup::{column, own_column};

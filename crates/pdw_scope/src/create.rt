@@ -6,10 +6,10 @@ ghost use Rattle.pdw_walk.specs.Statements as spec;
 ghost use Rattle.pdw_walk.specs.Statements.{Answers, answer_of};
 ghost use Rattle.pdw_walk.specs.Walk.{Walks, beginning, over};
 
+use crate::columns::place_of_column;
 use pdw_base::Str;
 use pdw_catalog::{Catalog, Column, MOST_COLUMNS, MOST_TABLES, Placing, Table};
 use pdw_form::Judged;
-use pdw_resolve::place_of_column;
 use pdw_walk::{JudgeFault, LimitName};
 use sqlite_items::Items as ListOf;
 use std::alloc::Global;

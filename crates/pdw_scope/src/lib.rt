@@ -1,6 +1,7 @@
 //! The judgement of statements: the first fault, or the statement with numbers in place of names.
 #![tactic(auto)]
 
+mod columns;
 mod create;
 mod judgement;
 mod order;

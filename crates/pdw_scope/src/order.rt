@@ -5,9 +5,10 @@ ghost use Rattle.std.specs.List.{list_any};
 ghost use Rattle.pdw_walk.specs.Queries as spec;
 ghost use Rattle.pdw_walk.specs.Walk.{Walks, beginning, each};
 
+use crate::columns::kept_place;
 use pdw_base::Str;
 use pdw_form::JudgedSelect;
-use pdw_resolve::{kept_place, text_from};
+use pdw_resolve::text_from;
 use pdw_syntax::{OrderKey, OrderName};
 use pdw_walk::{Column, JudgeFault, Walked};
 use sqlite_items::Items as ListOf;

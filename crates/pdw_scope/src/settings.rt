@@ -6,10 +6,11 @@ ghost use Rattle.pdw_walk.specs.Statements as spec;
 ghost use Rattle.pdw_walk.specs.Statements.{Answers, answer_of};
 ghost use Rattle.pdw_walk.specs.Walk.{Walks, beginning, over};
 
+use crate::columns::place_of_column;
 use pdw_base::Str;
 use pdw_catalog::{Catalog, Column};
 use pdw_form::Judged;
-use pdw_resolve::{place_of_column, text_from};
+use pdw_resolve::text_from;
 use pdw_syntax::CostPart;
 use pdw_walk::{JudgeFault, MOST_BUDGET, MOST_COST, MOST_STATISTIC, MOST_WIDTH};
 use sqlite_items::Items as ListOf;
