@@ -24,3 +24,13 @@ pub mod ShapeSubqueries
 pub mod ShapeQueries
 -- The tree of a sound numbered form is well-formed
 pub mod WellFormedLaws
+-- The nodes of each operator by those of its children
+pub mod NodesSteps
+-- The nodes of the tree of a query, by the table references and the queries of its numbered form
+pub mod NodesLaws
+-- The induction over queries and what stands in them: the nodes of a tree by the counts of its form
+pub mod NodesInduction
+-- In a tree whose nodes are well-formed there are more scans than joins, and no more blocks than leaves
+pub mod NodesShapes
+-- At most so many nodes of each kind stand in the tree of a sound form
+pub mod NodesBounds

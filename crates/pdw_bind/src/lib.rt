@@ -8,5 +8,5 @@ mod leaves;
 mod query;
 mod subqueries;
 
-pub use laws::the_tree_means_its_form;
+pub use laws::{a_tree_has_few_nodes, the_tree_means_its_form};
 pub use query::bind;

@@ -1,3 +1,4 @@
 pub mod Columns
 pub mod Numbered
 pub mod Sound
+pub mod Counts

@@ -36,3 +36,17 @@ pub mod SoundQueries
 pub mod SoundInduction
 -- The law of the tree, of the statements that the judgement accepts
 pub mod TreeLaw
+-- What steps of the walk count: table references and queries, within the limits of a statement
+pub mod Tallies
+-- What column references and value expressions count: nothing
+pub mod KeptExprs
+-- What predicates and items count: nothing
+pub mod KeptItems
+-- What the numbered forms of the walk count: drafts of FROM, subqueries and queries
+pub mod CountedForms
+-- What conditions, elements of FROM and queries count: what their numbered forms count
+pub mod CountedQueries
+-- The induction over queries and what stands in them: the walk counts what its numbered form counts
+pub mod CountedInduction
+-- The limits of a statement: what is judged has at most so many table references and queries
+pub mod Limits

@@ -3,4 +3,6 @@
 
 mod laws;
 
-pub use laws::the_tree_means_its_query;
+pub use laws::{
+    a_judged_tree_has_few_nodes, a_statement_keeps_its_limits, the_tree_means_its_query,
+};
