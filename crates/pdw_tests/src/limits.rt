@@ -1,187 +1,99 @@
-use super::{SCRIPT, TABLE, assert_outcome, outcome, repeated};
-use pdw_run::Status;
+//! Scripts, files and tables that are as large as they may be, and larger.
+
+use super::runs::{RECORDS, Run, SCRIPT, assert_ended, assert_files, assert_scripts, bytes_of};
+use pdw_base::Str;
 use std::alloc::Global;
 use std::process::Abort;
 use std::test::Fail;
 
-// A script of so many spaces, whose run is to end so and to write this text.
-fn assert_blank(
-    rt: &impl Abort,
-    alloc: Global,
-    length: usize,
-    status: Status,
-    printed: &[u8],
-) -> Result<(), Fail> {
-    let script = repeated(alloc, b" ", length)?;
-    let words = &["run", "4", "s"];
-    assert_outcome(rt, alloc, words, script.as_slice(), TABLE, status, printed)
+const SCRIPTS: Run<'static> = Run {
+    words: "run 4 s",
+    script: "",
+    records: RECORDS,
+};
+
+// Scripts of spaces, tables with columns, and many tables.
+const SIZES: &str = "\
+{1048576: } => Done
+{1048577: } => Refused REFUSED E16 LIMIT script 1048576~
+CREATE TABLE t (a INT{31:, c# INT}) WITH (DISTRIBUTION = HASH(a)); => Done OK~
+CREATE TABLE t (a INT{32:, c# INT}) WITH (DISTRIBUTION = HASH(a)); => Refused REFUSED E16 STATEMENT 1 LIMIT columns 32~
+{64:CREATE TABLE t# (a INT) WITH (DISTRIBUTION = REPLICATE);} => Done {64:OK~}
+{65:CREATE TABLE t# (a INT) WITH (DISTRIBUTION = REPLICATE);} => Refused {64:OK~}REFUSED E16 STATEMENT 65 LIMIT tables 64~
+LOAD t FROM '{1001:f}'; => Refused REFUSED E5 LONGTEXT AT 12~
+";
+
+#[test]
+fn scripts_keep_their_limits(rt: HostRuntime) -> Result<(), Fail> {
+    assert_scripts(&rt, rt.alloc(), SCRIPTS, SIZES)
+}
+
+const QUERIES: Run<'static> = Run {
+    words: "run 4 s",
+    script: "CREATE TABLE t (a INT, b TEXT) WITH (DISTRIBUTION = HASH(a));~SELECT 1 FROM ",
+    records: "",
+};
+
+// Three derived tables, each with others inside it. With them the statement has 64 queries, 65 and 67.
+const NESTED: &str = "\
+{21:(SELECT a FROM }t){20: AS w)} AS x, {21:(SELECT a FROM }t){20: AS w)} AS y, {21:(SELECT a FROM }t){20: AS w)} AS z; => Done OK~col1~ROWS 0~
+{22:(SELECT a FROM }t){21: AS w)} AS x, {21:(SELECT a FROM }t){20: AS w)} AS y, {21:(SELECT a FROM }t){20: AS w)} AS z; => Refused OK~REFUSED E16 STATEMENT 2 LIMIT queries 64~
+{22:(SELECT a FROM }t){21: AS w)} AS x, {22:(SELECT a FROM }t){21: AS w)} AS y, {22:(SELECT a FROM }t){21: AS w)} AS z; => Refused OK~REFUSED E16 STATEMENT 2 LIMIT queries 64~
+";
+
+#[test]
+fn a_statement_has_at_most_64_queries(rt: HostRuntime) -> Result<(), Fail> {
+    assert_scripts(&rt, rt.alloc(), QUERIES, NESTED)
+}
+
+const HASHED: Run<'static> = Run {
+    words: "run 4 s",
+    script: "CREATE TABLE t (a INT) WITH (DISTRIBUTION = HASH(a));~LOAD t FROM 't.csv';~SELECT * FROM t;~",
+    records: "",
+};
+
+const HASHED_ROWS: &str = "\
+{1000000:1~} => Done OK~LOADED 1000000~a~{1000000:1~}ROWS 1000000~
+{1000001:1~} => Refused OK~REFUSED E16 STATEMENT 2 LIMIT rows 1000000~
+";
+
+#[test]
+fn a_hash_distributed_table_has_at_most_a_million_rows(rt: HostRuntime) -> Result<(), Fail> {
+    assert_files(&rt, rt.alloc(), HASHED, HASHED_ROWS)
+}
+
+const REPLICATED: Run<'static> = Run {
+    words: "run 4 s",
+    script: "CREATE TABLE t (a INT) WITH (DISTRIBUTION = REPLICATE);~LOAD t FROM 't.csv';~SELECT * FROM t;~",
+    records: "",
+};
+
+const REPLICATED_ROWS: &str = "\
+{100000:1~} => Done OK~LOADED 100000~a~{100000:1~}ROWS 100000~
+{100001:1~} => Refused OK~REFUSED E16 STATEMENT 2 LIMIT rows 100000~
+";
+
+#[test]
+fn a_replicated_table_has_at_most_100000_rows(rt: HostRuntime) -> Result<(), Fail> {
+    assert_files(&rt, rt.alloc(), REPLICATED, REPLICATED_ROWS)
+}
+
+// A file of one record of so many bytes, loaded into a table of two columns.
+fn assert_large(rt: &impl Abort, alloc: Global, length: usize, wanted: &str) -> Result<(), Fail> {
+    let mut files = Vec::new(alloc);
+    files.push((Str::from_text(alloc, "s")?, bytes_of(alloc, SCRIPT)?))?;
+    files.push((Str::from_text(alloc, "t.csv")?, b"x".repeat(alloc, length)?))?;
+    assert_ended(rt, alloc, "run 4 s", files, wanted)
 }
 
 #[test]
-fn a_script_of_too_many_bytes_is_refused(rt: HostRuntime) -> Result<(), Fail> {
-    for (length, status, printed) in [
-        (1_048_576, Status::Done, b"".as_slice()),
-        (
-            1_048_577,
-            Status::Refused,
-            b"REFUSED E16 LIMIT script 1048576\n",
-        ),
-    ] {
-        assert_blank(&rt, rt.alloc(), length, status, printed)?;
-    }
-    Ok(())
-}
-
-// A table of so many bytes of one record.
-fn table_of(alloc: Global, length: usize) -> Result<Vec<u8>, Fail> {
-    let kilobyte = repeated(alloc, b"x", 1_024)?;
-    let mut table = repeated(alloc, kilobyte.as_slice(), length / 1_024)?;
-    for _ in 0..length % 1_024 {
-        table.push(b'x')?;
-    }
-    Ok(table)
-}
-
-// A load of it that is to be refused with this text.
-fn assert_refused(
-    rt: &impl Abort,
-    alloc: Global,
-    length: usize,
-    printed: &[u8],
-) -> Result<(), Fail> {
-    let table = table_of(alloc, length)?;
-    assert_outcome(
-        rt,
-        alloc,
-        &["run", "4", "s"],
-        SCRIPT,
-        table.as_slice(),
-        Status::Refused,
-        printed,
-    )
+fn a_file_of_the_most_bytes_is_read(rt: HostRuntime) -> Result<(), Fail> {
+    let wanted = "Refused OK~REFUSED E17 STATEMENT 2 FIELDCOUNT 1~";
+    assert_large(&rt, rt.alloc(), 67_108_864, wanted)
 }
 
 #[test]
 fn a_file_of_too_many_bytes_is_refused(rt: HostRuntime) -> Result<(), Fail> {
-    for (length, printed) in [
-        (
-            67_108_864,
-            b"OK\nREFUSED E17 STATEMENT 2 FIELDCOUNT 1\n".as_slice(),
-        ),
-        (
-            67_108_865,
-            b"OK\nREFUSED E16 STATEMENT 2 LIMIT file 67108864\n",
-        ),
-    ] {
-        assert_refused(&rt, rt.alloc(), length, printed)?;
-    }
-    Ok(())
-}
-
-// A script of a table of one column.
-const NARROW: &[u8] =
-    b"CREATE TABLE t (a INT) WITH (DISTRIBUTION = HASH(a));\nLOAD t FROM 't.csv';\nSELECT * FROM t;\n";
-
-// What it prints for a table of a million rows.
-fn million_printed(alloc: Global, table: &[u8]) -> Result<Vec<u8>, Fail> {
-    let mut printed = Vec::from_slice(alloc, b"OK\nLOADED 1000000\na\n")?;
-    printed.extend_from_slice(table)?;
-    printed.extend_from_slice(b"ROWS 1000000\n")?;
-    Ok(printed)
-}
-
-// The run of a table of a million rows.
-fn assert_million(rt: &impl Abort, alloc: Global, table: &[u8]) -> Result<(), Fail> {
-    let printed = million_printed(alloc, table)?;
-    let (status, text) = outcome(alloc, &["run", "4", "s"], NARROW, table)?;
-    assert_eq!(rt; status, Status::Done);
-    assert!(rt; text.as_slice() == printed.as_slice());
-    Ok(())
-}
-
-#[test]
-fn a_table_of_a_million_rows_is_loaded(rt: HostRuntime) -> Result<(), Fail> {
-    let table = repeated(rt.alloc(), b"1\n", 1_000_000)?;
-    assert_million(&rt, rt.alloc(), table.as_slice())
-}
-
-#[test]
-fn a_table_of_too_many_rows_is_refused(rt: HostRuntime) -> Result<(), Fail> {
-    let table = repeated(rt.alloc(), b"1\n", 1_000_001)?;
-    assert_outcome(
-        &rt,
-        rt.alloc(),
-        &["run", "4", "s"],
-        NARROW,
-        table.as_slice(),
-        Status::Refused,
-        b"OK\nREFUSED E16 STATEMENT 2 LIMIT rows 1000000\n",
-    )
-}
-
-// A script of a table with so many columns.
-fn wide(alloc: Global, columns: usize) -> Result<String, Fail> {
-    let mut script = String::from_str(alloc, "CREATE TABLE t (c0 INT")?;
-    for number in 1..columns {
-        let column = format!(in alloc; ", c{number} INT")?;
-        script.push_str(column.as_str())?;
-    }
-    script.push_str(") WITH (DISTRIBUTION = HASH(c0));")?;
-    Ok(script)
-}
-
-// Its run, which is to print this.
-fn assert_wide(
-    rt: &impl Abort,
-    alloc: Global,
-    columns: usize,
-    status: Status,
-    printed: &[u8],
-) -> Result<(), Fail> {
-    let script = wide(alloc, columns)?;
-    let words = &["run", "2", "s"];
-    assert_outcome(rt, alloc, words, script.as_bytes(), TABLE, status, printed)
-}
-
-#[test]
-fn a_table_of_too_many_columns_is_refused(rt: HostRuntime) -> Result<(), Fail> {
-    for (columns, status, printed) in [
-        (32, Status::Done, b"OK\n".as_slice()),
-        (
-            33,
-            Status::Refused,
-            b"REFUSED E16 STATEMENT 1 LIMIT columns 32\n",
-        ),
-    ] {
-        assert_wide(&rt, rt.alloc(), columns, status, printed)?;
-    }
-    Ok(())
-}
-
-// A script of so many tables.
-fn many(alloc: Global, tables: usize) -> Result<String, Fail> {
-    let mut script = String::new(alloc);
-    for number in 0..tables {
-        let table = format!(in alloc;
-            "CREATE TABLE t{number} (a INT) WITH (DISTRIBUTION = REPLICATE);"
-        )?;
-        script.push_str(table.as_str())?;
-    }
-    Ok(script)
-}
-
-#[test]
-fn a_table_too_many_is_refused(rt: HostRuntime) -> Result<(), Fail> {
-    let script = many(rt.alloc(), 65)?;
-    let mut printed = repeated(rt.alloc(), b"OK\n", 64)?;
-    printed.extend_from_slice(b"REFUSED E16 STATEMENT 65 LIMIT tables 64\n")?;
-    assert_outcome(
-        &rt,
-        rt.alloc(),
-        &["run", "2", "s"],
-        script.as_bytes(),
-        TABLE,
-        Status::Refused,
-        printed.as_slice(),
-    )
+    let wanted = "Refused OK~REFUSED E16 STATEMENT 2 LIMIT file 67108864~";
+    assert_large(&rt, rt.alloc(), 67_108_865, wanted)
 }

@@ -1,152 +1,184 @@
-use super::{PRINTED, SCRIPT, TABLE, entries, text_of, words_of};
+//! Runs whose reads and writes fail, at each of them in turn.
+
+use super::runs::{PRINTED, RECORDS, Run, SCRIPT, bytes_of, entries, words_of};
+use pdw_base::Str;
 use pdw_outside::{Files, HonestFiles, HonestSink, MemFiles, MemSink, Sink};
 use pdw_run::{Status, run};
 use std::alloc::Global;
 use std::process::Abort;
 use std::test::Fail;
 
-// How a run of the script at one node ends.
-fn ended<F: Files, S: Sink>(alloc: Global, files: &mut F, out: &mut S) -> Result<Status, Fail> {
-    let words = words_of(alloc, &["run", "1", "s"])?;
+const RUN: Run<'static> = Run {
+    words: "run 1 s",
+    script: SCRIPT,
+    records: RECORDS,
+};
+
+fn status_of<F: Files, S: Sink>(alloc: Global, files: &mut F, out: &mut S) -> Result<Status, Fail> {
+    let words = words_of(alloc, RUN.words)?;
     Ok(run(alloc, words.as_slice(), files, out))
 }
 
-// The same, and what the run writes where no write fails.
-fn outcome_over(alloc: Global, files: &mut MemFiles) -> Result<(Status, Vec<u8>), Fail> {
-    let mut out = HonestSink::new(alloc, 1_000)?;
-    let status = ended(alloc, files, &mut out)?;
-    Ok((status, Vec::from_slice(alloc, out.written())?))
-}
-
-// Files that give so many bytes at once at most, and whose read of this number fails.
-fn failing_files(
+// The run over these files ends so and writes this.
+fn assert_over(
     rt: &impl Abort,
     alloc: Global,
-    failing: u64,
-    piece: usize,
-) -> Result<MemFiles, Fail> {
-    assert!(rt; piece >= 1);
-    let entries = entries(alloc, SCRIPT, TABLE)?;
-    let fails = vec![in alloc; failing]?;
-    Ok(MemFiles::new(entries, fails, piece))
-}
-
-// A run over them that is to end so and to write this text.
-fn assert_failing(
-    rt: &impl Abort,
-    alloc: Global,
-    failing: u64,
-    piece: usize,
+    files: &mut MemFiles,
     status: Status,
     printed: &[u8],
 ) -> Result<(), Fail> {
-    let mut files = failing_files(rt, alloc, failing, piece)?;
-    let (ended, text) = outcome_over(alloc, &mut files)?;
-    assert_eq!(rt; ended, status, "{failing} of {piece}");
-    assert_eq!(rt; text.as_slice(), printed, "{failing} of {piece}");
+    let mut out = HonestSink::new(alloc, 1_000)?;
+    assert_eq!(rt; status_of(alloc, files, &mut out)?, status);
+    assert_eq!(rt; out.written(), printed);
     Ok(())
+}
+
+// How many bytes are given at once at most, how many reads the script takes and then the file, and each of them has
+// one more, which tells its end.
+#[derive(Clone, Copy)]
+struct Reads {
+    piece: usize,
+    of_script: u64,
+    of_file: u64,
+}
+
+// The read of this number fails.
+fn assert_read(rt: &impl Abort, alloc: Global, reads: Reads, failing: u64) -> Result<(), Fail> {
+    assert!(rt; reads.piece >= 1);
+    let entries = entries(alloc, RUN)?;
+    let mut files = MemFiles::new(entries, vec![in alloc; failing]?, reads.piece);
+    if failing <= reads.of_script {
+        assert_over(rt, alloc, &mut files, Status::ReadFault, b"")
+    } else {
+        assert_over(rt, alloc, &mut files, Status::ReadFault, b"OK\n")
+    }
+}
+
+// No read fails.
+fn assert_no_read(rt: &impl Abort, alloc: Global, piece: usize) -> Result<(), Fail> {
+    assert!(rt; piece >= 1);
+    let entries = entries(alloc, RUN)?;
+    let mut files = MemFiles::new(entries, Vec::new(alloc), piece);
+    let printed = bytes_of(alloc, PRINTED)?;
+    assert_over(rt, alloc, &mut files, Status::Done, printed.as_slice())
+}
+
+fn assert_reads(rt: &impl Abort, alloc: Global, reads: Reads) -> Result<(), Fail> {
+    let all = reads.of_script.saturating_add(reads.of_file);
+    for before in 0..all {
+        assert_read(rt, alloc, reads, before + 1)?;
+    }
+    assert_no_read(rt, alloc, reads.piece)
 }
 
 #[test]
 fn each_read_that_fails_ends_the_run(rt: HostRuntime) -> Result<(), Fail> {
-    // How many reads the script takes and then the table, each with one that tells its end.
-    for (piece, of_script, of_table) in [(1, 101, 10), (8, 14, 3), (1_000, 2, 2)] {
-        for failing in 1..of_script + of_table + 2 {
-            let (status, printed) = if failing <= of_script {
-                (Status::ReadFault, b"".as_slice())
-            } else if failing <= of_script + of_table {
-                (Status::ReadFault, b"OK\n".as_slice())
-            } else {
-                (Status::Done, PRINTED)
-            };
-            assert_failing(&rt, rt.alloc(), failing, piece, status, printed)?;
-        }
+    for reads in [
+        Reads {
+            piece: 1,
+            of_script: 101,
+            of_file: 10,
+        },
+        Reads {
+            piece: 8,
+            of_script: 14,
+            of_file: 3,
+        },
+        Reads {
+            piece: 1_000,
+            of_script: 2,
+            of_file: 2,
+        },
+    ] {
+        assert_reads(&rt, rt.alloc(), reads)?;
     }
     Ok(())
 }
 
 // The script alone, under this name.
-fn lone_file(alloc: Global, name: &str) -> Result<MemFiles, Fail> {
-    let mut entries = Vec::new(alloc);
-    entries.push((text_of(alloc, name)?, Vec::from_slice(alloc, SCRIPT)?))?;
-    Ok(MemFiles::new(entries, Vec::new(alloc), 1_000))
-}
-
-// A run over it that ends at a read and is to write this text.
 fn assert_missing(rt: &impl Abort, alloc: Global, name: &str, printed: &[u8]) -> Result<(), Fail> {
-    let mut files = lone_file(alloc, name)?;
-    let (ended, text) = outcome_over(alloc, &mut files)?;
-    assert_eq!(rt; ended, Status::ReadFault, "{name}");
-    assert_eq!(rt; text.as_slice(), printed, "{name}");
-    Ok(())
+    let mut entries = Vec::new(alloc);
+    entries.push((Str::from_text(alloc, name)?, bytes_of(alloc, SCRIPT)?))?;
+    let mut files = MemFiles::new(entries, Vec::new(alloc), 1_000);
+    assert_over(rt, alloc, &mut files, Status::ReadFault, printed)
 }
 
 #[test]
 fn a_missing_file_ends_the_run(rt: HostRuntime) -> Result<(), Fail> {
-    for (name, printed) in [("s", b"OK\n".as_slice()), ("t.csv", b"")] {
-        assert_missing(&rt, rt.alloc(), name, printed)?;
-    }
-    Ok(())
-}
-
-// How a run over a table ends that writes into the sink.
-fn ended_into(alloc: Global, table: &[u8], out: &mut MemSink) -> Result<Status, Fail> {
-    let mut files = HonestFiles::new(entries(alloc, SCRIPT, table)?);
-    ended(alloc, &mut files, out)
+    assert_missing(&rt, rt.alloc(), "s", b"OK\n")?;
+    assert_missing(&rt, rt.alloc(), "t.csv", b"")
 }
 
 // A run whose writes take one byte each and fail after so many: it ends so where the whole text is written.
 fn assert_cut(
     rt: &impl Abort,
     alloc: Global,
-    table: &[u8],
+    run: Run<'_>,
     whole: &[u8],
     status: Status,
     done: usize,
 ) -> Result<(), Fail> {
     assert!(rt; done <= whole.len());
     let fails = vec![in alloc; done as u64 + 1]?;
+    let mut files = HonestFiles::new(entries(alloc, run)?);
     let mut out = MemSink::new(alloc, fails, 1, 1_000)?;
-    let ended = ended_into(alloc, table, &mut out)?;
+    let found = status_of(alloc, &mut files, &mut out)?;
     let wanted = if done < whole.len() {
         Status::WriteFault
     } else {
         status
     };
-    assert_eq!(rt; ended, wanted, "{done}");
+    assert_eq!(rt; found, wanted, "{done}");
     assert_eq!(rt; out.written().len(), done);
     assert!(rt; whole.starts_with(out.written()), "{done}");
     Ok(())
 }
 
+// Each write of a run fails in turn.
+fn assert_writes(
+    rt: &impl Abort,
+    alloc: Global,
+    run: Run<'_>,
+    printed: &str,
+    status: Status,
+) -> Result<(), Fail> {
+    let whole = bytes_of(alloc, printed)?;
+    for done in 0..whole.len() {
+        assert_cut(rt, alloc, run, whole.as_slice(), status, done)?;
+    }
+    assert_cut(rt, alloc, run, whole.as_slice(), status, whole.len())
+}
+
 #[test]
 fn each_write_that_fails_ends_the_run(rt: HostRuntime) -> Result<(), Fail> {
-    let refused = b"OK\nREFUSED E17 STATEMENT 2 BADINT 1 1\n".as_slice();
-    for (table, whole, status) in [
-        (TABLE, PRINTED, Status::Done),
-        (b"x,y\n", refused, Status::Refused),
-    ] {
-        for done in 0..whole.len() + 1 {
-            assert_cut(&rt, rt.alloc(), table, whole, status, done)?;
-        }
-    }
-    Ok(())
+    assert_writes(&rt, rt.alloc(), RUN, PRINTED, Status::Done)?;
+    let faulty = Run {
+        records: "x,y~",
+        ..RUN
+    };
+    let printed = "OK~REFUSED E17 STATEMENT 2 BADINT 1 1~";
+    assert_writes(&rt, rt.alloc(), faulty, printed, Status::Refused)
 }
 
 // A run into a sink that keeps so many bytes alone.
-fn assert_kept(rt: &impl Abort, alloc: Global, room: usize) -> Result<(), Fail> {
+fn assert_kept(rt: &impl Abort, alloc: Global, whole: &[u8], room: usize) -> Result<(), Fail> {
+    let mut files = HonestFiles::new(entries(alloc, RUN)?);
     let mut out = MemSink::new(alloc, Vec::new(alloc), 5, room)?;
-    let ended = ended_into(alloc, TABLE, &mut out)?;
-    assert_eq!(rt; ended, Status::Done, "{room}");
+    assert_eq!(rt;
+        status_of(alloc, &mut files, &mut out)?,
+        Status::Done,
+        "{room}"
+    );
     assert_eq!(rt; out.written().len(), room);
-    assert!(rt; PRINTED.starts_with(out.written()), "{room}");
+    assert!(rt; whole.starts_with(out.written()), "{room}");
     Ok(())
 }
 
 #[test]
 fn a_sink_without_room_keeps_the_first_bytes(rt: HostRuntime) -> Result<(), Fail> {
-    for room in 0..PRINTED.len() + 1 {
-        assert_kept(&rt, rt.alloc(), room)?;
+    let whole = bytes_of(rt.alloc(), PRINTED)?;
+    for room in 0..whole.len() {
+        assert_kept(&rt, rt.alloc(), whole.as_slice(), room)?;
     }
-    Ok(())
+    assert_kept(&rt, rt.alloc(), whole.as_slice(), whole.len())
 }

@@ -1,46 +1,49 @@
-use super::{SCRIPT, TABLE, outcome};
+//! The words of the command line.
+
+use super::runs::{Run, assert_run};
 use pdw_run::Status;
 use std::alloc::Global;
 use std::process::Abort;
 use std::test::Fail;
 
-// A run of the words is to end so, and it prints nothing where they have another form.
-fn assert_ended(
-    rt: &impl Abort,
-    alloc: Global,
-    words: &[&str],
-    status: Status,
-) -> Result<(), Fail> {
-    let (ended, text) = outcome(alloc, words, SCRIPT, TABLE)?;
-    assert_eq!(rt; ended, status, "{words:?}");
-    assert_eq!(rt; text.is_empty(), status == Status::BadWords, "{words:?}");
+// The words, and how their run ends. Two spaces have an empty word between them.
+const CASES: &str = "\
+run 1 s => Done OK~
+run 9 s => Done OK~
+run 16 s => Done OK~
+ => BadWords
+run => BadWords
+run 4 => BadWords
+run 4 s 5 => BadWords
+walk 4 s => BadWords
+RUN 4 s => BadWords
+run 0 s => BadWords
+run 17 s => BadWords
+run 04 s => BadWords
+run +4 s => BadWords
+run -4 s => BadWords
+run 4_ s => BadWords
+run  s => BadWords
+run 4294967300 s => BadWords
+demo 1 2 => BadWords
+";
+
+fn assert_words(rt: &impl Abort, alloc: Global, run: Run<'_>, cases: &str) -> Result<(), Fail> {
+    for line in cases.lines() {
+        let (words, wanted) = line.split_once(" => ").ok_or("an arrow")?;
+        assert_run(rt, alloc, Run { words, ..run }, wanted)?;
+    }
     Ok(())
 }
 
 #[test]
 fn words_of_another_form_run_nothing(rt: HostRuntime) -> Result<(), Fail> {
-    for (words, status) in [
-        (["run", "1", "s"].as_slice(), Status::Done),
-        (&["run", "9", "s"], Status::Done),
-        (&["run", "16", "s"], Status::Done),
-        (&[], Status::BadWords),
-        (&["run"], Status::BadWords),
-        (&["run", "4"], Status::BadWords),
-        (&["run", "4", "s", "5"], Status::BadWords),
-        (&["walk", "4", "s"], Status::BadWords),
-        (&["RUN", "4", "s"], Status::BadWords),
-        (&["run", "0", "s"], Status::BadWords),
-        (&["run", "17", "s"], Status::BadWords),
-        (&["run", "04", "s"], Status::BadWords),
-        (&["run", "+4", "s"], Status::BadWords),
-        (&["run", "-4", "s"], Status::BadWords),
-        (&["run", "4 ", "s"], Status::BadWords),
-        (&["run", "", "s"], Status::BadWords),
-        (&["run", "4294967300", "s"], Status::BadWords),
-    ] {
-        assert_ended(&rt, rt.alloc(), words, status)?;
-    }
-    Ok(())
+    let run = Run {
+        words: "",
+        script: "CREATE TABLE t (a INT) WITH (DISTRIBUTION = REPLICATE);",
+        records: "",
+    };
+    assert_words(&rt, rt.alloc(), run, CASES)
 }
 
 #[test]
