@@ -33,8 +33,8 @@ fn assert_over(
     Ok(())
 }
 
-// How many bytes are given at once at most, how many reads the script takes and then the file, and each of them has
-// one more, which tells its end.
+// How many bytes are given at once at most, and how many reads the script takes and then the file, each with one that
+// tells its end.
 #[derive(Clone, Copy)]
 struct Reads {
     piece: usize,
@@ -42,33 +42,33 @@ struct Reads {
     of_file: u64,
 }
 
-// The read of this number fails.
+// How the run ends where the read of this number fails, and what it prints.
+fn ended_at(reads: Reads, failing: u64) -> (Status, &'static str) {
+    if failing <= reads.of_script {
+        (Status::ReadFault, "")
+    } else if failing - reads.of_script <= reads.of_file {
+        (Status::ReadFault, "OK~")
+    } else {
+        (Status::Done, PRINTED)
+    }
+}
+
 fn assert_read(rt: &impl Abort, alloc: Global, reads: Reads, failing: u64) -> Result<(), Fail> {
     assert!(rt; reads.piece >= 1);
+    let (status, printed) = ended_at(reads, failing);
+    let printed = bytes_of(alloc, printed)?;
     let entries = entries(alloc, RUN)?;
     let mut files = MemFiles::new(entries, vec![in alloc; failing]?, reads.piece);
-    if failing <= reads.of_script {
-        assert_over(rt, alloc, &mut files, Status::ReadFault, b"")
-    } else {
-        assert_over(rt, alloc, &mut files, Status::ReadFault, b"OK\n")
-    }
+    assert_over(rt, alloc, &mut files, status, printed.as_slice())
 }
 
-// No read fails.
-fn assert_no_read(rt: &impl Abort, alloc: Global, piece: usize) -> Result<(), Fail> {
-    assert!(rt; piece >= 1);
-    let entries = entries(alloc, RUN)?;
-    let mut files = MemFiles::new(entries, Vec::new(alloc), piece);
-    let printed = bytes_of(alloc, PRINTED)?;
-    assert_over(rt, alloc, &mut files, Status::Done, printed.as_slice())
-}
-
+// Each read fails in turn, and then one that is not made.
 fn assert_reads(rt: &impl Abort, alloc: Global, reads: Reads) -> Result<(), Fail> {
-    let all = reads.of_script.saturating_add(reads.of_file);
-    for before in 0..all {
-        assert_read(rt, alloc, reads, before + 1)?;
+    let last = reads.of_script.saturating_add(reads.of_file);
+    for failing in 1..last.saturating_add(2) {
+        assert_read(rt, alloc, reads, failing)?;
     }
-    assert_no_read(rt, alloc, reads.piece)
+    Ok(())
 }
 
 #[test]
