@@ -227,9 +227,10 @@ sound-project items child sound = record {
 pub sound-leaves : (leaves : List Shape) → list_all (λ leaf. leaf.sound) leaves ≡ true → Once (flat_map (λ leaf. leaf.made) leaves) → AllByRecursion IsSound leaves
 sound-leaves [] sound once = tt
 sound-leaves (leaf ∷ leaves) sound once =
-    let parts = and_parts leaf.sound (list_all (λ leaf. leaf.sound) leaves) sound in
-    (record { nodes = parts.0; once = once-left leaf.made (flat_map (λ (leaf : Shape). leaf.made) leaves) once },
-     sound-leaves leaves parts.1 (once-right leaf.made (flat_map (λ (leaf : Shape). leaf.made) leaves) once))
+    let parts = and_parts leaf.sound (list_all (λ leaf. leaf.sound) leaves) sound in (
+      record { nodes = parts.0; once = once-left leaf.made (flat_map (λ (leaf : Shape). leaf.made) leaves) once },
+      sound-leaves leaves parts.1 (once-right leaf.made (flat_map (λ (leaf : Shape). leaf.made) leaves) once),
+    )
 
 pub record BlockParts (leaves : List Shape) (conds : List Cond) : Type 0 where
   pub each : AllByRecursion IsSound leaves

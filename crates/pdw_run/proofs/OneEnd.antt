@@ -133,7 +133,7 @@ module _ (held : Held) (told : (name : List ℕ) → IsSome (held name)) (some o
   gives_same : (one two : Trace) (left right : Plain) → Gives held some statement one left → Gives held other statement two right → SamePlain left right
   gives_same one two left right first second =
       let is = one_work (judgement some.tables statement) first.answered.work second.answered.work first.answered.prepares.right
-          (prepares_same some other same statement second.answered.work second.answered.prepares).right in
+      (prepares_same some other same statement second.answered.work second.answered.prepares).right in
       let file = told_same first.answered.work first.file second.file first.told (subst (λ work. IsTold held (wanted work) second.file) (sym is) second.told) in
       let does = subst (λ work. Does other statement work second.file second.answer right) (sym is) second.answered.does in
       does_same some other same statement first.answer second.answer left right first.answered.work first.file first.answered.does
