@@ -14,7 +14,7 @@ returns c =
     let keys = c.args.keys.now in
     let aggs = c.args.aggs.now in
     let child = c.args.child.now in
-    let schema = subst (λ (made : Columns). IsSchemaOf made columns) (c.as_slice.ensures.value ∙ c.in_ok-made.ensures) c.in_ok-columns.ensures in
+    let schema = subst (λ (made : Columns). IsSchemaOf made columns) (c.as_slice.ensures.value ∙ c.in_ok-made.ensures) c.in_ok-columns.ensures.schema in
     let of_group = λ (group : List (List Value)). row_over columns (group_row keys aggs (map (cell child.columns) group)) in
     let parts = c.as_slice-3.ensures ∙ c.in_ok-groups.ensures ∙ ap (groups keys (key_over child.columns keys)) c.as_slice-2.ensures in
     ap (map (cell columns)) (c.in_ok-rows.ensures ∙ ap (map of_group) parts)

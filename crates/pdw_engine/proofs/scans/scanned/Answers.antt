@@ -8,5 +8,5 @@ use Rattle.pdw_engine.proofs.scans.scanned.Goals as goal
 pub returns : goal.returns
 returns c =
     let columns = c.in_ok-columns.columns in
-    let schema = subst (λ (used : Columns). IsSchemaOf used columns) (c.as_slice.ensures.value ∙ c.in_ok-used.ensures) c.in_ok-columns.ensures in
+    let schema = subst (λ (used : Columns). IsSchemaOf used columns) (c.as_slice.ensures.value ∙ c.in_ok-used.ensures) c.in_ok-columns.ensures.schema in
     ap (map (cell columns)) c.in_ok-rows.ensures ∙ scanned_rows c.args.cols.now columns schema (whole_of c.args.table.now c.args.appliance.now)
