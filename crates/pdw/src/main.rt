@@ -3,7 +3,8 @@
 
 use pdw_base::{NoMemory, Str};
 use pdw_outside::{DiskFiles, StdSink};
-use pdw_run::{Status, run};
+use pdw_run::Status;
+use pdw_run::run::run;
 use std::alloc::Global;
 use std::process::ExitCode;
 use std::rt::{Env, Files};

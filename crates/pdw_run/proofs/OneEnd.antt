@@ -32,14 +32,14 @@ one_content : (told : Option (List ℕ)) → IsSome told → (some other : List 
 one_content None there some other first second = absurd (cc)
 one_content (Some content) there some other first second = first ∙ sym second
 
-work_or : Judged → Result Judged JudgeFault → Judged
+abbrev work_or : Judged → Result Judged JudgeFault → Judged
 work_or otherwise (Ok work) = work
 work_or otherwise (Err fault) = otherwise
 
 one_work : (answer : Result Judged JudgeFault) (some other : Judged) → answer ≡ Ok some → answer ≡ Ok other → some ≡ other
 one_work answer some other first second = ap (work_or some) (sym first ∙ second)
 
-IsOk : Result Judged JudgeFault → Type 0
+abbrev IsOk : Result Judged JudgeFault → Type 0
 IsOk (Ok work) = ⊤
 IsOk (Err fault) = ⊥
 
@@ -79,7 +79,7 @@ module _ (some other : Plain) (same : SamePlain some other) where
   not_refused_content name content answer new loads table there (refusal.Rows most) refuses =
       let room = subst (λ (t : Table). length (some.rows name) + length (records_of content) ≤ most_rows t.placing) (one_table name loads.table table loads.there there) loads.room in
       let rows = SameBag-length (same.rows name) in
-      let full = refuses.2.1 in
+      let full = refuses.2 in
       omega (arith, room, rows, full)
   not_refused_content name content answer new loads table there refusal.NotBuilt refuses = refuses
   not_refused_content name content answer new loads table there (refusal.Judge found) refuses = refuses
@@ -92,7 +92,7 @@ module _ (some other : Plain) (same : SamePlain some other) where
       not_refused_content name content answer new does table there fault refuses
   not_failed statement _ content answer new short does k line (inr (fits, fault, refuses, is)) = refuses
 
-some_value : List ℕ → Option (List ℕ) → List ℕ
+abbrev some_value : List ℕ → Option (List ℕ) → List ℕ
 some_value otherwise None = otherwise
 some_value otherwise (Some x) = x
 

@@ -5,7 +5,7 @@ pub mod laws;
 mod perform;
 mod reading;
 mod refusal;
-mod run;
+pub mod run;
 mod status;
 mod step;
 mod stop;
@@ -14,7 +14,6 @@ mod words;
 
 pub use reading::read_script;
 pub use refusal::refusal_line;
-pub use run::run;
 pub use status::Status;
 pub use step::run_statements;
 pub use text::push_rows;

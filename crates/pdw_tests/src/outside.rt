@@ -3,7 +3,8 @@
 use super::runs::{PRINTED, RECORDS, Run, SCRIPT, bytes_of, entries, words_of};
 use pdw_base::Str;
 use pdw_outside::{Files, HonestFiles, HonestSink, MemFiles, MemSink, Sink};
-use pdw_run::{Status, run};
+use pdw_run::Status;
+use pdw_run::run::run;
 use std::alloc::Global;
 use std::process::Abort;
 use std::test::Fail;

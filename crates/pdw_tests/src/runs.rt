@@ -4,7 +4,8 @@
 
 use pdw_base::Str;
 use pdw_outside::{HonestFiles, HonestSink};
-use pdw_run::{Status, run};
+use pdw_run::Status;
+use pdw_run::run::run;
 use pdw_test_support::expanded;
 use std::alloc::Global;
 use std::process::Abort;

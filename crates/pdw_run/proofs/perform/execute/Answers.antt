@@ -1,13 +1,16 @@
-use Rattle.std.proofs.Common.{rules, ◌≡◌, ℕ, List, subst, sym}
+use Rattle.std.proofs.Common.{rules, ◌≡◌, ℕ, true, List, subst, sym}
 use Rattle.std.specs.Option.{option_copied, option_map}
 use Rattle.pdw_engine.specs.Executes.{Gives as Answered, IsGiven, StopsWork}
 use Rattle.pdw_engine.specs.Plain.{plain_of}
 use Rattle.pdw_engine.specs.Prepared.{Prepares, wanted}
+use Rattle.pdw_engine.specs.declared.answer.Answer.{Answer}
 use Rattle.pdw_engine.specs.declared.refusal.Stop.{Stop as EngineStop}
 use Rattle.pdw_run.specs.Output.{Gives, IsTold}
 use Rattle.pdw_run.specs.Stops.{Stops, stop_of}
 use Rattle.pdw_run.specs.declared.stop.Stop.{Stop}
 use Rattle.pdw_run.specs.Trace.{prints}
+use Rattle.pdw_syntax.specs.Written.{statement_written}
+use Rattle.pdw_syntax.specs.declared.statement.Statement.{Statement}
 use Rattle.pdw_run.proofs.PerformLemmas.{Gives-answered, Stops-file, Stops-work, passed_on, turned_on}
 use Rattle.pdw_run.proofs.perform.execute.Goals as goal
 
@@ -41,6 +44,9 @@ returns-clause-text g c =
     let prepares : Prepares c.args.session.now.tables c.args.statement.now c.in_ok-prepared.prepared = search rules in
     let same : option_copied c.map-content.result ≡ option_map (λ bytes. bytes.items) c.in_ok-file.file = search rules in
     let told = subst (IsTold held (wanted c.in_ok-prepared.prepared)) (sym same) c.in_ok-file.ensures.told in
-    let answered : Answered old c.args.statement.now (option_copied c.map-content.result) c.in_ok-answer.answer (plain_of c.execute.new.self) = search rules in
+    let answers = passed_on c.execute.result c.map_err-2.result c.in_ok-answer.answer
+        (λ (answer : Answer). (statement : Statement) → statement_written statement ≡ true → Prepares c.args.session.now.tables statement c.in_ok-prepared.prepared → Answered old statement (option_copied c.map-content.result) answer (plain_of c.execute.new.self))
+        (λ (e : EngineStop) (d : Stop). d ≡ stop_of e) c.in_ok-answer.was c.map_err-2.ensures.cases c.execute.ensures.answer in
+    let answered = answers c.args.statement.now c.requires prepares in
     subst (λ text. Gives held old c.args.statement.now (prints text) (plain_of c.execute.new.self)) (sym c.in_ok-answer-2.ensures)
     (Gives-answered held old c.args.statement.now c.in_ok-prepared.prepared prepares (option_copied c.map-content.result) c.in_ok-answer.answer (plain_of c.execute.new.self) told answered)
