@@ -236,14 +236,19 @@ fn assert_judged(
     Ok(())
 }
 
-// Over these tables each statement is judged as its line says.
+// A statement is judged as its line says.
+fn assert_case(rt: &impl Abort, alloc: Global, catalog: &Catalog, line: &str) -> Result<(), Fail> {
+    let (case, wanted) = line.split_once(" => ").ok_or("an arrow")?;
+    let script = expanded(alloc, case)?;
+    assert_judged(rt, alloc, catalog, script.as_str(), wanted)
+}
+
+// That holds of each line, over these tables.
 fn assert_cases(rt: &impl Abort, alloc: Global, tables: &str, cases: &str) -> Result<(), Fail> {
     let session = session_of(alloc, tables)?;
     let catalog = session.appliance().catalog();
     for line in cases.lines() {
-        let (case, wanted) = line.split_once(" => ").ok_or("an arrow")?;
-        let script = expanded(alloc, case)?;
-        assert_judged(rt, alloc, catalog, script.as_str(), wanted)?;
+        assert_case(rt, alloc, catalog, line)?;
     }
     Ok(())
 }
@@ -271,20 +276,20 @@ fn tables_keep_their_limits(rt: HostRuntime) -> Result<(), Fail> {
 
 // What stands around two parts of a statement.
 #[derive(Clone, Copy)]
-struct Frame {
-    head: &'static str,
-    between: &'static str,
-    tail: &'static str,
+struct Frame<'a> {
+    head: &'a str,
+    between: &'a str,
+    tail: &'a str,
 }
 
 // Of two faulty parts the first counts.
-fn assert_first(
+fn assert_first<'a>(
     rt: &impl Abort,
     alloc: Global,
     catalog: &Catalog,
-    frame: Frame,
-    first: &str,
-    second: &str,
+    frame: Frame<'a>,
+    first: &'a str,
+    second: &'a str,
 ) -> Result<(), Fail> {
     let (faulty, wanted) = first.split_once(" => ").ok_or("an arrow")?;
     let (other, _) = second.split_once(" => ").ok_or("an arrow")?;
@@ -293,7 +298,12 @@ fn assert_first(
 }
 
 // That holds of all pairs, in both orders.
-fn assert_pairs(rt: &impl Abort, alloc: Global, frame: Frame, parts: &str) -> Result<(), Fail> {
+fn assert_pairs<'a>(
+    rt: &impl Abort,
+    alloc: Global,
+    frame: Frame<'a>,
+    parts: &'a str,
+) -> Result<(), Fail> {
     let session = session_of(alloc, TABLES)?;
     let catalog = session.appliance().catalog();
     for first in parts.lines() {
