@@ -45,8 +45,8 @@ returns-clause-text g c =
     let same : option_copied c.map-content.result ≡ option_map (λ bytes. bytes.items) c.in_ok-file.file = search rules in
     let told = subst (IsTold held (wanted c.in_ok-prepared.prepared)) (sym same) c.in_ok-file.ensures.told in
     let answers = passed_on c.execute.result c.map_err-2.result c.in_ok-answer.answer
-        (λ (answer : Answer). (statement : Statement) → statement_written statement ≡ true → Prepares c.args.session.now.tables statement c.in_ok-prepared.prepared → Answered old statement (option_copied c.map-content.result) answer (plain_of c.execute.new.self))
-        (λ (e : EngineStop) (d : Stop). d ≡ stop_of e) c.in_ok-answer.was c.map_err-2.ensures.cases c.execute.ensures.answer in
+    (λ (answer : Answer). (statement : Statement) → statement_written statement ≡ true → Prepares c.args.session.now.tables statement c.in_ok-prepared.prepared → Answered old statement (option_copied c.map-content.result) answer (plain_of c.execute.new.self))
+    (λ (e : EngineStop) (d : Stop). d ≡ stop_of e) c.in_ok-answer.was c.map_err-2.ensures.cases c.execute.ensures.answer in
     let answered = answers c.args.statement.now c.requires prepares in
     subst (λ text. Gives held old c.args.statement.now (prints text) (plain_of c.execute.new.self)) (sym c.in_ok-answer-2.ensures)
     (Gives-answered held old c.args.statement.now c.in_ok-prepared.prepared prepares (option_copied c.map-content.result) c.in_ok-answer.answer (plain_of c.execute.new.self) told answered)
