@@ -1,0 +1,6 @@
+//! Packets: what a transfer carries from node to node.
+#![tactic(auto)]
+
+mod packet;
+
+pub use packet::{MOST_ROWS, Packet};
