@@ -1,7 +1,7 @@
 ghost use Rattle.std.specs.Prelude.{◌≡◌};
-ghost use Rattle.pdw_move.specs.Move.{property_after, property_before};
+ghost use Rattle.pdw_move.specs.Move.{property_after, property_before, reaches};
 
-use pdw_base::{ColId, Node};
+use pdw_base::{ColId, Node, NodeCount};
 
 /// How rows stand at the nodes.
 #[derive(Clone, Copy, PartialEq, Eq)]
@@ -67,6 +67,21 @@ impl Move {
             Move::ToSingle => Prop::Single,
             Move::ToControl => Prop::Control,
             Move::Broadcast | Move::FromControl | Move::FromSingle => Prop::Replicated,
+        }
+    }
+}
+
+impl Receivers {
+    /// Whether a node is among them, where there are so many compute nodes.
+    pub fn reaches(&self, nodes: NodeCount, target: Node) -> bool
+        ensures { result ≡ reaches nodes self.now target }
+    {
+        match (self, target) {
+            (Receivers::Nobody, _) => false,
+            (Receivers::One(Node::Compute(place)), Node::Compute(number)) => *place == number,
+            (Receivers::One(Node::Control), Node::Control) => true,
+            (Receivers::AllCompute, Node::Compute(number)) => number < nodes.get(),
+            _ => false,
         }
     }
 }

@@ -1,0 +1,10 @@
+pub mod ListLemmas
+pub mod FlagLemmas
+pub mod GridLemmas
+pub mod ReadyLemmas
+pub mod ShapeLemmas
+pub mod MachineLemmas
+pub mod StartLemmas
+pub mod NumberLemmas
+pub mod EventLemmas
+pub mod SentLemmas
