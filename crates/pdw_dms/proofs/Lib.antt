@@ -1,0 +1,9 @@
+pub mod TransferLemmas
+pub mod MovedLemmas
+pub mod AddsUpLemmas
+pub mod WorkLemmas
+pub mod FollowsLemmas
+pub mod EndLemmas
+pub mod CountLemmas
+pub mod PairLemmas
+pub mod EndsLemmas
