@@ -17,6 +17,7 @@ use Rattle.pdw_dms.proofs.AddsUpLemmas.{no_filling, start_in-shaped}
 use Rattle.pdw_dms.proofs.CountLemmas.{inboxes_count, link_count, links_count, run-counts, unread_count}
 use Rattle.pdw_dms.proofs.EndLemmas.{filling-nil, inbox-nil, link-nil, unread-nil}
 use Rattle.pdw_dms.proofs.MovedLemmas.{there-inside, value-set, weigh-set_same}
+use Rattle.pdw_dms.proofs.SumLemmas.{run-pairs}
 use Rattle.pdw_dms.proofs.PairLemmas.{owed, owed_by, run-pays}
 
 module _ {X : Type 0} where
@@ -175,6 +176,7 @@ module _ (held : Held) (sound : IsSound held) (none : enabled_events held.job he
         all = omega (arith, counts.unread, counts.links, counts.inboxes, counts.all);
         fill = λ from to there there_to. (pair from to there there_to).0;
         some = λ from to there there_to. (pair from to there there_to).1;
+        pairs = run-pairs job held.events start started sound.run;
       }
 
 -- the same numbers, in the words of a state from which these events led on
@@ -186,4 +188,5 @@ ends-before job added s events ends = record {
   all = ends.all ∙ ap (λ m. m + 3 * count_by is_flush events) (row_count-replay job added s);
   fill = λ from to there there_to. subst (λ m. m ≤ 64 * count_by (is_flush_between from to) events) (rows_between-replay job added s from to) (ends.fill from to there there_to);
   some = λ from to there there_to. subst (λ m. count_by (is_flush_between from to) events ≤ m) (rows_between-replay job added s from to) (ends.some from to there there_to);
+  pairs = ends.pairs;
 }

@@ -7,3 +7,4 @@ pub mod EndLemmas
 pub mod CountLemmas
 pub mod PairLemmas
 pub mod EndsLemmas
+pub mod SumLemmas

@@ -3,6 +3,7 @@ use Rattle.std.specs.Prelude.{◌≡◌, ℕ, ◌+◌, ◌*◌, ◌≤◌, ◌&&
 use Rattle.pdw_base.specs.SameBag.{weigh}
 use Rattle.pdw_base.specs.declared.node.Node.{Node}
 use Rattle.pdw_move.specs.Move.{is_same_node}
+use Rattle.pdw_move.specs.Placed.{all_nodes}
 use Rattle.pdw_machine.specs.declared.event.Event.{Event}
 use Rattle.pdw_machine.specs.declared.event.Event.TheVariants.{Read, Flush, Deliver, Copy}
 use Rattle.pdw_machine.specs.Machine.{Job, State, goes, place, source_at}
@@ -55,3 +56,4 @@ pub record EndsWith (job : Job) (s : State) (events : List Event) : Type 0 where
   pub all : length events ≡ row_count s + 3 * count_by is_flush events
   pub fill : (from to : Node) → IsThere job.nodes from → IsThere job.nodes to → rows_between job s from to ≤ 64 * count_by (is_flush_between from to) events
   pub some : (from to : Node) → IsThere job.nodes from → IsThere job.nodes to → count_by (is_flush_between from to) events ≤ rows_between job s from to
+  pub pairs : count_by is_flush events ≡ weigh (λ from. weigh (λ to. count_by (is_flush_between from to) events) (all_nodes job.nodes)) (all_nodes job.nodes)
