@@ -5,6 +5,7 @@ use super::sessions::session_of;
 use pdw_catalog::Catalog;
 use pdw_form::Judged;
 use pdw_scope::judge;
+use pdw_syntax::Statement;
 use pdw_test_support::{expanded, statements_of};
 use pdw_walk::JudgeFault;
 use std::alloc::{AllocError, Global};
@@ -215,11 +216,20 @@ fn shown(alloc: Global, judgement: &Result<Judged, JudgeFault>) -> Result<String
     Ok(text)
 }
 
+// The judgement of a statement. It is let go where nothing else is held, which is cheap to prove.
+fn judged_as(
+    alloc: Global,
+    catalog: &Catalog,
+    statement: &Statement,
+) -> Result<String, AllocError> {
+    shown(alloc, &judge(alloc, catalog, statement))
+}
+
 // The same of a script of one statement.
 fn judged(alloc: Global, catalog: &Catalog, script: &str) -> Result<String, Fail> {
     let statements = statements_of(alloc, script)?;
     match statements.as_slice() {
-        [statement] => Ok(shown(alloc, &judge(alloc, catalog, statement))?),
+        [statement] => Ok(judged_as(alloc, catalog, statement)?),
         _ => Err("not one statement")?,
     }
 }

@@ -9,6 +9,7 @@ use pdw_catalog::Catalog;
 use pdw_expr::{Agg, Cond, JoinKind, Scalar};
 use pdw_form::{Judged, JudgedQuery};
 use pdw_scope::judge;
+use pdw_syntax::Statement;
 use pdw_test_support::statements_of;
 use pdw_walk::JudgeFault;
 use std::alloc::{AllocError, Global};
@@ -170,10 +171,14 @@ fn bound(alloc: Global, judgement: &Result<Judged, JudgeFault>) -> Result<String
     }
 }
 
+fn tree_after(alloc: Global, catalog: &Catalog, statement: &Statement) -> Result<String, Fail> {
+    bound(alloc, &judge(alloc, catalog, statement))
+}
+
 fn tree_of(alloc: Global, catalog: &Catalog, script: &str) -> Result<String, Fail> {
     let statements = statements_of(alloc, script)?;
     match statements.as_slice() {
-        [statement] => bound(alloc, &judge(alloc, catalog, statement)),
+        [statement] => tree_after(alloc, catalog, statement),
         _ => Err("not one statement")?,
     }
 }
