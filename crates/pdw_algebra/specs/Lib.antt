@@ -1,4 +1,5 @@
 pub mod Meaning
+pub mod Local
 pub mod Schema
 pub mod Types
 pub mod Shape

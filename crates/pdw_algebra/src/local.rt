@@ -1,3 +1,5 @@
+//! Trees of operators at one node.
+
 use pdw_base::{ColId, Str};
 use pdw_expr::{Agg, Cond, JoinKind, Scalar};
 use sqlite_items::{Boxed, Items};

@@ -1,9 +1,18 @@
+//! Trees of operators over whole tables.
+
+ghost use Rattle.std.specs.Prelude.{◌≡◌};
+
 use pdw_base::{ColId, Str};
 use pdw_expr::{Agg, Cond, JoinKind, Scalar};
 use sqlite_items::{Boxed, Items};
 
 /// The greatest number of leaves of a block.
 pub const MOST_LEAVES: usize = 10;
+
+/// The limit of leaves.
+pub fn the_limit_of_leaves_is_this()
+    ensures { MOST_LEAVES ≡ 10 }
+{}
 
 /// A tree of operators over whole tables. It means a bag of rows, each a value for each of its columns.
 #[derive(Drop)]

@@ -6,8 +6,7 @@ ghost use Rattle.pdw_algebra.specs.declared.tree.Tree.TheVariants as tree;
 ghost use Rattle.pdw_bind.specs.Bind as spec;
 ghost use Rattle.pdw_form.specs.Columns as columns;
 
-use crate::copies::{aggs_copy, conds_copy, make_copy};
-use pdw_algebra::Tree;
+use pdw_algebra::{Tree, aggs_copy, conds_copy, make_copy};
 use pdw_base::{ColId, NoMemory};
 use pdw_expr::{Agg, Cond, Scalar};
 use pdw_form::{JGroup, JItem};

@@ -1,7 +1,6 @@
 //! From the numbered form of a query to its tree of operators.
 #![tactic(auto)]
 
-mod copies;
 mod groups;
 mod laws;
 mod leaves;

@@ -4,11 +4,10 @@ ghost use Rattle.std.specs.Prelude.{◌≡◌, fold, map, IfOk};
 ghost use Rattle.pdw_bind.specs.Bind as spec;
 ghost use Rattle.pdw_bind.specs.Bind.{bound, trees};
 
-use crate::copies::conds_copy;
 use crate::groups::{distinct_if, grouped, projected};
 use crate::leaves::{Part, block, joined, leaf, no_part, scan, together};
 use crate::subqueries::subquery_join;
-use pdw_algebra::Tree;
+use pdw_algebra::{Tree, conds_copy};
 use pdw_base::NoMemory;
 use pdw_form::{JFrom, JSub, JudgedQuery};
 use sqlite_items::Items;

@@ -5,8 +5,7 @@ ghost use Rattle.pdw_algebra.specs.declared.tree.Tree.TheVariants as tree;
 ghost use Rattle.pdw_bind.specs.Bind as spec;
 ghost use Rattle.pdw_bind.specs.Bind.{trees};
 
-use crate::copies::conds_copy;
-use pdw_algebra::Tree;
+use pdw_algebra::{Tree, conds_copy};
 use pdw_base::{NoMemory, Truth};
 use pdw_expr::{Cmp, Cond, JoinKind, Scalar};
 use pdw_form::{JItem, JudgedQuery};

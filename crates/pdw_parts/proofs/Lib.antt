@@ -6,3 +6,5 @@ pub mod ConjunctLaws
 pub mod ProductLaws
 -- the laws of parts
 pub mod PartLaws
+-- the columns of expressions and conditions, by their parts
+pub mod InsideLemmas

@@ -1,7 +1,0 @@
-use Rattle.std.proofs.Common.{◌≡◌, ◌++◌, take}
-use Rattle.std.specs.List.{flat_map}
-use Rattle.pdw_memo.specs.Columns.{useful_columns}
-use Rattle.pdw_memo.proofs.columns.+useful.Given as goal
-
-abbrev pub invariant-add_leaves-loop-leaf : goal.invariant-add_leaves-loop-leaf
-invariant-add_leaves-loop-leaf l = l.useful.items ≡ l.initial.useful.items ++ flat_map (useful_columns l.catalog) (take l.leaf-index l.leaves)

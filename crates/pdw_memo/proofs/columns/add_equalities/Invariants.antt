@@ -1,6 +1,0 @@
-use Rattle.std.proofs.Common.{◌≡◌, ◌++◌, take}
-use Rattle.pdw_memo.specs.Columns.{equated}
-use Rattle.pdw_memo.proofs.columns.add_equalities.Given as goal
-
-abbrev pub invariant-loop-conjunct : goal.invariant-loop-conjunct
-invariant-loop-conjunct l = l.useful.items ≡ l.initial.useful.items ++ equated (take l.conjunct-index l.conds)
