@@ -5,9 +5,9 @@ use Rattle.pdw_lex.specs.declared.token.Lexeme.{Lexeme}
 use Rattle.pdw_lex.specs.declared.token.Lexeme.TheVariants.{Sign}
 use Rattle.pdw_syntax.specs.Rule.{empty, one, both, none, more}
 use Rattle.pdw_syntax.specs.Lexemes.{is_sign, same_sign}
-use Rattle.pdw_syntax.specs.Groups.{Groups}
+use Rattle.pdw_syntax.specs.Parentheses.{Parentheses}
 use Rattle.pdw_syntax.specs.Statements.{statement}
-use Rattle.pdw_syntax.specs.Texts.{IsWritten, groups, most_open, script}
+use Rattle.pdw_syntax.specs.Texts.{IsWritten, parentheses, most_open, script}
 use Rattle.pdw_ast.specs.Written.{sayings}
 use Rattle.pdw_ast.specs.Spelling.{canonical}
 use Rattle.pdw_ast.specs.Spelling.{statement as spelling}
@@ -23,7 +23,7 @@ unfolding same_sign
 semicolon_is = refl
 
 -- a script of one statement
-alone : (g : Groups) (w : List Lexeme) (x : Statement) → statement g w x → script g (w ++ Sign Semicolon ∷ []) (x ∷ [])
+alone : (g : Parentheses) (w : List Lexeme) (x : Statement) → statement g w x → script g (w ++ Sign Semicolon ∷ []) (x ∷ [])
 alone g w x text =
     subst (λ (all : List Lexeme). script g all (x ∷ [])) (append-nil (w ++ Sign Semicolon ∷ []))
     (more (w ++ Sign Semicolon ∷ []) [] (both w (Sign Semicolon ∷ []) text (both (Sign Semicolon ∷ []) [] (one (Sign Semicolon) semicolon_is) empty)) none)
@@ -37,6 +37,6 @@ canonical_means x written =
       tokens = lexed.tokens;
       utf8 = spaced-utf8 (spelling x) spelled;
       lexes = lexed.lexes;
-      spells = subst (λ (says : List Lexeme). script (groups most_open) says (x ∷ [])) (sym lexed.say)
-          (alone (groups most_open) (sayings (spelling x)) x (statement_means most_open (map (λ t. t.lexeme) written.tokens) x written.spells));
+      spells = subst (λ (says : List Lexeme). script (parentheses most_open) says (x ∷ [])) (sym lexed.say)
+          (alone (parentheses most_open) (sayings (spelling x)) x (statement_means most_open (map (λ t. t.lexeme) written.tokens) x written.spells));
     }

@@ -6,7 +6,7 @@ use Rattle.pdw_lex.specs.declared.keyword.Keyword.TheVariants as k
 use Rattle.pdw_lex.specs.declared.token.Lexeme.{Lexeme}
 use Rattle.pdw_syntax.specs.Rule.{◌>>◌, Many}
 use Rattle.pdw_syntax.specs.Lexemes as lexemes
-use Rattle.pdw_syntax.specs.Groups.{Groups}
+use Rattle.pdw_syntax.specs.Parentheses.{Parentheses}
 use Rattle.pdw_syntax.specs.Conds as rule
 use Rattle.pdw_ast.specs.Written as written
 use Rattle.pdw_ast.specs.Spelling as spelling
@@ -15,7 +15,7 @@ use Rattle.pdw_syntax.specs.declared.query.SqlCond.{SqlCond}
 use Rattle.pdw_ast.proofs.Reprint.{Reprints, spelled_as, and_then, and_last, and_nothing, and_text, if_any, reprints_maybe, reprints_either, reprints_made, reprints_many, reprints_enclosed}
 use Rattle.pdw_ast.proofs.ReprintOne.{at_key, key_reprints, comparison_reprints, truth_reprints}
 use Rattle.pdw_ast.proofs.ReprintEquations.{flat_map_map, cond, cond_compare, cond_like, cond_null, cond_between, cond_in_list, cond_in_query, cond_exists, cond_test, cond_not, cond_all, cond_any, cond_paren}
-use Rattle.pdw_ast.proofs.ReprintExprs.{GroupsReprint, expr_reprint}
+use Rattle.pdw_ast.proofs.ReprintExprs.{ParenthesesReprint, expr_reprint}
 
 not_spelled : (o : Option (Unit {0})) → if_any (λ u. written.key k.KwNot ∷ []) o ≡ spelling.negation (is_some o)
 not_spelled None = refl
@@ -52,7 +52,7 @@ tested_spelled : (x : SqlCond) (t : Option (Bool × Truth)) → cond x ++ if_any
 tested_spelled x None = append-nil (cond x)
 tested_spelled x (Some t) = sym (cond_test t.0 x t.1)
 
-module _ (g : Groups) (laws : GroupsReprint g) where
+module _ (g : Parentheses) (laws : ParenthesesReprint g) where
   comparison_reprint : Reprints (rule.comparison g) cond
   unfolding rule.comparison
   comparison_reprint = spelled_as (and_then (expr_reprint g laws) (λ x. and_then comparison_reprints (λ op. and_last (expr_reprint g laws) (λ y. sym (cond_compare op x y)))))

@@ -7,7 +7,7 @@ use Rattle.pdw_lex.specs.declared.sign.Sign.TheVariants as s
 use Rattle.pdw_lex.specs.declared.token.Lexeme.{Lexeme}
 use Rattle.pdw_syntax.specs.Rule.{Rule, ◌>>=◌, ◌>>◌, pure, One, Many}
 use Rattle.pdw_syntax.specs.Lexemes as lexemes
-use Rattle.pdw_syntax.specs.Groups.{Groups}
+use Rattle.pdw_syntax.specs.Parentheses.{Parentheses}
 use Rattle.pdw_syntax.specs.Exprs as rule
 use Rattle.pdw_ast.specs.Written as written
 use Rattle.pdw_ast.specs.Spelling as spelling
@@ -18,7 +18,7 @@ use Rattle.pdw_ast.proofs.ReprintOne.{at_key, at_sign, name_reprints, number_rep
 use Rattle.pdw_ast.proofs.ReprintEquations.{expr_col, expr_number, expr_text, expr_signed, expr_chain, expr_agg, expr_agg_star, expr_paren, flat_map_map, cond, table_reference}
 
 -- what may stand in parentheses means what it means as it is spelled
-pub record GroupsReprint (g : Groups) : Type 0 where
+pub record ParenthesesReprint (g : Parentheses) : Type 0 where
   pub star : Reprints g.star (λ u. written.sign s.Star ∷ [])
   pub expr : Reprints g.expr spelling.expr
   pub exprs : Reprints g.exprs (λ xs. spelling.comma_list (map spelling.expr xs))
@@ -60,7 +60,7 @@ signed_spelled : (minus : Option Bool) (x : SqlExpr) → if_any (λ minus. writt
 signed_spelled None x = refl
 signed_spelled (Some minus) x = sym (expr_signed minus x)
 
-module _ (g : Groups) (laws : GroupsReprint g) where
+module _ (g : Parentheses) (laws : ParenthesesReprint g) where
   aggregate_reprint : Reprints (rule.aggregate g) spelling.expr
   unfolding rule.aggregate
   aggregate_reprint = reprints_either

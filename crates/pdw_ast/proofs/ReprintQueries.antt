@@ -7,7 +7,7 @@ use Rattle.pdw_lex.specs.declared.sign.Sign.TheVariants as s
 use Rattle.pdw_lex.specs.declared.token.Lexeme.{Lexeme}
 use Rattle.pdw_syntax.specs.Rule.{◌>>◌, ◌<$>◌, Empty, empty, One, Then, both, Maybe, present}
 use Rattle.pdw_syntax.specs.Lexemes as lexemes
-use Rattle.pdw_syntax.specs.Groups.{Groups}
+use Rattle.pdw_syntax.specs.Parentheses.{Parentheses}
 use Rattle.pdw_syntax.specs.Conds as conds
 use Rattle.pdw_syntax.specs.Exprs as exprs
 use Rattle.pdw_syntax.specs.Queries as rule
@@ -21,7 +21,7 @@ use Rattle.pdw_syntax.specs.declared.query.SqlCond.{SqlCond}
 use Rattle.pdw_ast.proofs.Reprint.{Printed, Reprints, spelled_as, and_then, and_last, and_nothing, and_text, if_any, printed_then, printed_made, printed_present, reprints_maybe, reprints_either, reprints_made, respelled}
 use Rattle.pdw_ast.proofs.ReprintOne.{at_key, at_sign, name_reprints, key_reprints, quantifier_reprints, order_word, order_name_reprints, printed_direction}
 use Rattle.pdw_ast.proofs.ReprintEquations.{flat_map_map, cond, query_roll}
-use Rattle.pdw_ast.proofs.ReprintExprs.{GroupsReprint, reprints_separated, reprints_listed, column_reference_reprints, expr_reprint}
+use Rattle.pdw_ast.proofs.ReprintExprs.{ParenthesesReprint, reprints_separated, reprints_listed, column_reference_reprints, expr_reprint}
 use Rattle.pdw_ast.proofs.ReprintConds.{cond_reprint}
 use Rattle.pdw_ast.proofs.ReprintTables.{called_reprints, printed_none, alias_spelled, tables_reprint}
 
@@ -86,7 +86,7 @@ clause_spelled : (keyword : Keyword) (o : Option SqlCond) → if_any (λ x. writ
 clause_spelled keyword None = refl
 clause_spelled keyword (Some x) = refl
 
-module _ (g : Groups) (laws : GroupsReprint g) where
+module _ (g : Parentheses) (laws : ParenthesesReprint g) where
   clause_reprint : (keyword : Keyword) → Reprints (Maybe (lexemes.key keyword >> conds.cond g)) (λ o. spelling.clause keyword (option_map cond o))
   clause_reprint keyword = spelled_as (and_text (reprints_maybe (spelled_as (at_key keyword (and_text (cond_reprint g laws) (λ x. refl))))) (clause_spelled keyword))
 

@@ -4,9 +4,9 @@ use Rattle.pdw_base.specs.declared.value.Kind.{Kind}
 use Rattle.pdw_lex.specs.declared.keyword.Keyword.TheVariants as k
 use Rattle.pdw_lex.specs.declared.sign.Sign.TheVariants as s
 use Rattle.pdw_lex.specs.declared.token.Lexeme.{Lexeme}
-use Rattle.pdw_syntax.specs.Groups.{Groups}
+use Rattle.pdw_syntax.specs.Parentheses.{Parentheses}
 use Rattle.pdw_syntax.specs.Statements as rule
-use Rattle.pdw_syntax.specs.Texts.{groups}
+use Rattle.pdw_syntax.specs.Texts.{parentheses}
 use Rattle.pdw_ast.specs.Written as written
 use Rattle.pdw_ast.specs.Written.{sayings}
 use Rattle.pdw_ast.specs.Spelling as spelling
@@ -16,7 +16,7 @@ use Rattle.pdw_ast.proofs.Valid.{AllValid, AllSpelled}
 use Rattle.pdw_ast.proofs.Reprint.{Reprints, spelled_as, and_then, and_last, and_nothing, and_text, if_any, reprints_maybe, reprints_either, reprints_made, reprints_enclosed}
 use Rattle.pdw_ast.proofs.ReprintTokens.{hash_spelled, replicate_spelled, distribution_spelled, load_spelled, width_spelled, rows_spelled, statistics_spelled, budget_spelled, cost_spelled, explain_spelled, json_spelled, profile_spelled, check_spelled, plan_spelled, for_spelled}
 use Rattle.pdw_ast.proofs.ReprintOne.{at_key, at_word, key_reprints, sign_reprints, word_reprints, name_reprints, number_reprints, text_reprints, kind_reprints, cost_part_reprints}
-use Rattle.pdw_ast.proofs.ReprintExprs.{GroupsReprint, reprints_separated, reprints_listed, expr_reprint}
+use Rattle.pdw_ast.proofs.ReprintExprs.{ParenthesesReprint, reprints_separated, reprints_listed, expr_reprint}
 use Rattle.pdw_ast.proofs.ReprintConds.{cond_reprint}
 use Rattle.pdw_ast.proofs.ReprintTables.{table_reference_reprint}
 use Rattle.pdw_ast.proofs.ReprintQueries.{query_reprint, select_reprint}
@@ -70,7 +70,7 @@ budget_reprints = spelled_as (and_then (spelled_as (at_key k.KwSet (and_text (wo
 cost_reprints : Reprints rule.cost_constant spelling.statement
 cost_reprints = spelled_as (at_key k.KwSet (at_word cost_spelled (and_then cost_part_reprints (λ part. and_last number_reprints (λ amount. refl)))))
 
-module _ (g : Groups) (laws : GroupsReprint g) where
+module _ (g : Parentheses) (laws : ParenthesesReprint g) where
   explain_reprint : Reprints (rule.explain g) spelling.statement
   explain_reprint = reprints_either
       (reprints_made (spelled_as (at_word explain_spelled (and_text (select_reprint g laws) (λ q. refl)))) (λ q. refl))
@@ -90,9 +90,9 @@ module _ (g : Groups) (laws : GroupsReprint g) where
 
 -- ---- every level of parentheses
 
-groups_reprint : (n : ℕ) → GroupsReprint (groups n)
-unfolding groups
-groups_reprint zero = record {
+parentheses_reprint : (n : ℕ) → ParenthesesReprint (parentheses n)
+unfolding parentheses
+parentheses_reprint zero = record {
   star = record { from = λ w a r. absurd r };
   expr = record { from = λ w a r. absurd r };
   exprs = record { from = λ w a r. absurd r };
@@ -100,19 +100,19 @@ groups_reprint zero = record {
   query = record { from = λ w a r. absurd r };
   tables = record { from = λ w a r. absurd r };
 }
-groups_reprint (suc n) = let laws = groups_reprint n in record {
+parentheses_reprint (suc n) = let laws = parentheses_reprint n in record {
   star = sign_reprints s.Star;
-  expr = expr_reprint (groups n) laws;
-  exprs = reprints_listed (expr_reprint (groups n) laws);
-  cond = cond_reprint (groups n) laws;
-  query = query_reprint (groups n) laws;
-  tables = table_reference_reprint (groups n) laws;
+  expr = expr_reprint (parentheses n) laws;
+  exprs = reprints_listed (expr_reprint (parentheses n) laws);
+  cond = cond_reprint (parentheses n) laws;
+  query = query_reprint (parentheses n) laws;
+  tables = table_reference_reprint (parentheses n) laws;
 }
 
 -- what the canonical spelling of a statement says is a text that means it
-pub statement_means : (n : ℕ) (w : List Lexeme) (x : Statement) → rule.statement (groups n) w x → rule.statement (groups n) (sayings (spelling.statement x)) x
-statement_means n w x r = ((statement_reprint (groups n) (groups_reprint n)).from w x r).means
+pub statement_means : (n : ℕ) (w : List Lexeme) (x : Statement) → rule.statement (parentheses n) w x → rule.statement (parentheses n) (sayings (spelling.statement x)) x
+statement_means n w x r = ((statement_reprint (parentheses n) (parentheses_reprint n)).from w x r).means
 
 -- where a statement's lexemes are valid, the tokens of its canonical spelling are well spelled
-pub statement_spelled : (n : ℕ) (w : List Lexeme) (x : Statement) → rule.statement (groups n) w x → AllValid w → AllSpelled (spelling.statement x)
-statement_spelled n w x r = ((statement_reprint (groups n) (groups_reprint n)).from w x r).spelled
+pub statement_spelled : (n : ℕ) (w : List Lexeme) (x : Statement) → rule.statement (parentheses n) w x → AllValid w → AllSpelled (spelling.statement x)
+statement_spelled n w x r = ((statement_reprint (parentheses n) (parentheses_reprint n)).from w x r).spelled

@@ -4,7 +4,7 @@ use Rattle.pdw_lex.specs.declared.keyword.Keyword.TheVariants as k
 use Rattle.pdw_lex.specs.declared.token.Lexeme.{Lexeme}
 use Rattle.pdw_syntax.specs.Rule.{◌>>=◌, ◌>>◌, pure, empty, One, first, second, Maybe, absent}
 use Rattle.pdw_syntax.specs.Lexemes as lexemes
-use Rattle.pdw_syntax.specs.Groups.{Groups}
+use Rattle.pdw_syntax.specs.Parentheses.{Parentheses}
 use Rattle.pdw_syntax.specs.Tables as rule
 use Rattle.pdw_ast.specs.Written as written
 use Rattle.pdw_ast.specs.Spelling as spelling
@@ -14,7 +14,7 @@ use Rattle.pdw_syntax.specs.declared.query.JoinWord.TheVariants.{Cross, Inner}
 use Rattle.pdw_ast.proofs.Reprint.{Printed, Reprints, spelled_as, and_then, and_last, and_nothing, and_text, always, if_any, printed_empty, printed_then, printed_first, printed_second, printed_present, reprints_maybe, reprints_either, reprints_made, reprints_many, reprints_enclosed}
 use Rattle.pdw_ast.proofs.ReprintOne.{at_key, printed_key, name_reprints, outer_reprints}
 use Rattle.pdw_ast.proofs.ReprintEquations.{primary, primary_named, primary_derived, primary_paren, join, join_none, join_some, table_reference, table_roll}
-use Rattle.pdw_ast.proofs.ReprintExprs.{GroupsReprint, reprints_listed}
+use Rattle.pdw_ast.proofs.ReprintExprs.{ParenthesesReprint, reprints_listed}
 use Rattle.pdw_ast.proofs.ReprintConds.{cond_reprint}
 
 -- left out, whatever was written
@@ -45,7 +45,7 @@ join_word_reprints = record { from = go }
     go w word (second (first side)) = printed_second (printed_first (side_reprints.from w word side))
     go w word (second (second empty)) = printed_first (printed_then (printed_key {w = []} k.KwInner) printed_empty refl)
 
-module _ (g : Groups) (laws : GroupsReprint g) where
+module _ (g : Parentheses) (laws : ParenthesesReprint g) where
   primary_reprint : Reprints (rule.primary g) primary
   unfolding rule.primary
   primary_reprint = reprints_either

@@ -160,7 +160,7 @@ impl<F: Fn(Global, &mut Tokens<'_>, usize, Wanted) -> Result<Content, Stop>> Gra
         value: SqlExpr,
         low: SqlExpr,
     ) -> Result<SqlCond, Stop>
-        requires { Nests self.now.depth (F.pre self.now.group) (F.post self.now.group) }
+        requires { Nests self.now.depth (F.pre self.now.nested) (F.post self.now.nested) }
         ensures { Reads (spec.between_high (nested self.now.depth) negated value low tokens.old) result tokens.new }
     {
         match self.expr(tokens) {
@@ -186,7 +186,7 @@ impl<F: Fn(Global, &mut Tokens<'_>, usize, Wanted) -> Result<Content, Stop>> Gra
         value: SqlExpr,
         low: SqlExpr,
     ) -> Result<SqlCond, Stop>
-        requires { Nests self.now.depth (F.pre self.now.group) (F.post self.now.group) }
+        requires { Nests self.now.depth (F.pre self.now.nested) (F.post self.now.nested) }
         ensures { Reads (spec.between_low (nested self.now.depth) negated value low tokens.old) result tokens.new }
     {
         match tokens.take_key(Keyword::KwAnd) {
@@ -207,7 +207,7 @@ impl<F: Fn(Global, &mut Tokens<'_>, usize, Wanted) -> Result<Content, Stop>> Gra
         negated: bool,
         value: SqlExpr,
     ) -> Result<SqlCond, Stop>
-        requires { Nests self.now.depth (F.pre self.now.group) (F.post self.now.group) }
+        requires { Nests self.now.depth (F.pre self.now.nested) (F.post self.now.nested) }
         ensures { Reads (spec.between_from (nested self.now.depth) negated value tokens.old) result tokens.new }
     {
         match self.expr(tokens) {
@@ -226,7 +226,7 @@ impl<F: Fn(Global, &mut Tokens<'_>, usize, Wanted) -> Result<Content, Stop>> Gra
         negated: bool,
         value: SqlExpr,
     ) -> Result<SqlCond, Stop>
-        requires { Nests self.now.depth (F.pre self.now.group) (F.post self.now.group) }
+        requires { Nests self.now.depth (F.pre self.now.nested) (F.post self.now.nested) }
         ensures { Reads (spec.like_from (nested self.now.depth) negated value tokens.old) result tokens.new }
     {
         match self.expr(tokens) {
@@ -249,10 +249,10 @@ impl<F: Fn(Global, &mut Tokens<'_>, usize, Wanted) -> Result<Content, Stop>> Gra
         negated: bool,
         value: SqlExpr,
     ) -> Result<SqlCond, Stop>
-        requires { Nests self.now.depth (F.pre self.now.group) (F.post self.now.group) }
+        requires { Nests self.now.depth (F.pre self.now.nested) (F.post self.now.nested) }
         ensures { Reads (spec.in_from (nested self.now.depth) negated value tokens.old) result tokens.new }
     {
-        match self.among_group(tokens) {
+        match self.nested_among(tokens) {
             Ok(among) => Ok(among_cond(self.alloc, negated, value, among)?),
             Err(stop) => {
                 drop(value);
@@ -268,7 +268,7 @@ impl<F: Fn(Global, &mut Tokens<'_>, usize, Wanted) -> Result<Content, Stop>> Gra
         negated: bool,
         value: SqlExpr,
     ) -> Result<SqlCond, Stop>
-        requires { Nests self.now.depth (F.pre self.now.group) (F.post self.now.group) }
+        requires { Nests self.now.depth (F.pre self.now.nested) (F.post self.now.nested) }
         ensures { Reads (spec.negatable_by (nested self.now.depth) negated value (next tokens.old) tokens.old) result tokens.new }
     {
         match tokens.peek() {
@@ -294,7 +294,7 @@ impl<F: Fn(Global, &mut Tokens<'_>, usize, Wanted) -> Result<Content, Stop>> Gra
     // The same with NOT before it, if that is written.
     #[tactic(auto, unfolding(pdw_reading::specs::ReadConds::negatable_from))]
     fn negatable_from(&self, tokens: &mut Tokens<'_>, value: SqlExpr) -> Result<SqlCond, Stop>
-        requires { Nests self.now.depth (F.pre self.now.group) (F.post self.now.group) }
+        requires { Nests self.now.depth (F.pre self.now.nested) (F.post self.now.nested) }
         ensures { Reads (spec.negatable_from (nested self.now.depth) value tokens.old) result tokens.new }
     {
         let negated = tokens.eat_key(Keyword::KwNot);
@@ -308,7 +308,7 @@ impl<F: Fn(Global, &mut Tokens<'_>, usize, Wanted) -> Result<Content, Stop>> Gra
         value: SqlExpr,
         operator: Option<Cmp>,
     ) -> Result<SqlCond, Stop>
-        requires { Nests self.now.depth (F.pre self.now.group) (F.post self.now.group) }
+        requires { Nests self.now.depth (F.pre self.now.nested) (F.post self.now.nested) }
         ensures { Reads (spec.predicate_by (nested self.now.depth) value operator tokens.old) result tokens.new }
     {
         if let Some(operator) = operator {
@@ -330,7 +330,7 @@ impl<F: Fn(Global, &mut Tokens<'_>, usize, Wanted) -> Result<Content, Stop>> Gra
     // A predicate that begins with this value.
     #[tactic(auto, unfolding(pdw_reading::specs::ReadConds::predicate_from, pdw_reading::specs::Reading::take_if))]
     fn predicate_from(&self, tokens: &mut Tokens<'_>, value: SqlExpr) -> Result<SqlCond, Stop>
-        requires { Nests self.now.depth (F.pre self.now.group) (F.post self.now.group) }
+        requires { Nests self.now.depth (F.pre self.now.nested) (F.post self.now.nested) }
         ensures { Reads (spec.predicate_from (nested self.now.depth) value tokens.old) result tokens.new }
     {
         let operator = tokens.taken_if(comparison_of(tokens.peek()));
@@ -338,9 +338,9 @@ impl<F: Fn(Global, &mut Tokens<'_>, usize, Wanted) -> Result<Content, Stop>> Gra
     }
 
     // What a pair of parentheses begins.
-    fn after_group(&self, tokens: &mut Tokens<'_>, inner: Operand) -> Result<Operand, Stop>
-        requires { Nests self.now.depth (F.pre self.now.group) (F.post self.now.group) }
-        ensures { Reads (spec.after_group (nested self.now.depth) inner tokens.old) result tokens.new }
+    fn after_parentheses(&self, tokens: &mut Tokens<'_>, inner: Operand) -> Result<Operand, Stop>
+        requires { Nests self.now.depth (F.pre self.now.nested) (F.post self.now.nested) }
+        ensures { Reads (spec.after_parentheses (nested self.now.depth) inner tokens.old) result tokens.new }
     {
         match inner {
             Operand::Cond(cond) => Ok(Operand::Cond(SqlCond::Paren(Boxed::new(self.alloc, cond)?))),
@@ -354,18 +354,18 @@ impl<F: Fn(Global, &mut Tokens<'_>, usize, Wanted) -> Result<Content, Stop>> Gra
     /// A whole condition that begins one, or the expression that begins a predicate.
     #[tactic(auto, unfolding(pdw_reading::specs::ReadConds::started))]
     fn started(&self, tokens: &mut Tokens<'_>) -> Result<Operand, Stop>
-        requires { Nests self.now.depth (F.pre self.now.group) (F.post self.now.group) }
+        requires { Nests self.now.depth (F.pre self.now.nested) (F.post self.now.nested) }
         ensures { Reads (spec.started (nested self.now.depth) tokens.old) result tokens.new }
     {
         match tokens.peek() {
             Some(Lexeme::Key(Keyword::KwExists)) => {
                 tokens.advance();
-                let query = self.query_group(tokens)?;
+                let query = self.nested_query(tokens)?;
                 Ok(Operand::Cond(SqlCond::Exists(Boxed::new(self.alloc, query)?)))
             }
             Some(Lexeme::Sign(Sign::ParenOpen)) => {
-                let inner = self.operand_group(tokens)?;
-                self.after_group(tokens, inner)
+                let inner = self.nested_operand(tokens)?;
+                self.after_parentheses(tokens, inner)
             }
             _ => Ok(Operand::Expr(self.expr(tokens)?)),
         }
@@ -373,7 +373,7 @@ impl<F: Fn(Global, &mut Tokens<'_>, usize, Wanted) -> Result<Content, Stop>> Gra
 
     #[tactic(auto, unfolding(pdw_reading::specs::ReadConds::primary_condition))]
     fn primary_condition(&self, tokens: &mut Tokens<'_>) -> Result<SqlCond, Stop>
-        requires { Nests self.now.depth (F.pre self.now.group) (F.post self.now.group) }
+        requires { Nests self.now.depth (F.pre self.now.nested) (F.post self.now.nested) }
         ensures { Reads (spec.primary_condition (nested self.now.depth) tokens.old) result tokens.new }
     {
         match self.started(tokens)? {
@@ -384,7 +384,7 @@ impl<F: Fn(Global, &mut Tokens<'_>, usize, Wanted) -> Result<Content, Stop>> Gra
 
     #[tactic(auto, unfolding(pdw_reading::specs::ReadConds::factor))]
     fn factor(&self, tokens: &mut Tokens<'_>) -> Result<SqlCond, Stop>
-        requires { Nests self.now.depth (F.pre self.now.group) (F.post self.now.group) }
+        requires { Nests self.now.depth (F.pre self.now.nested) (F.post self.now.nested) }
         ensures { Reads (spec.factor (nested self.now.depth) tokens.old) result tokens.new }
     {
         let negated = tokens.eat_key(Keyword::KwNot);
@@ -396,7 +396,7 @@ impl<F: Fn(Global, &mut Tokens<'_>, usize, Wanted) -> Result<Content, Stop>> Gra
     // The condition after AND, if that comes next.
     #[tactic(auto, unfolding(pdw_reading::specs::Reading::eat))]
     fn factor_after_and(&self, tokens: &mut Tokens<'_>) -> Result<Option<SqlCond>, Stop>
-        requires { Nests self.now.depth (F.pre self.now.group) (F.post self.now.group) }
+        requires { Nests self.now.depth (F.pre self.now.nested) (F.post self.now.nested) }
         ensures { Reads (begun_by (lexemes.is_key Keyword.KwAnd) (λ _. spec.factor (nested self.now.depth)) tokens.old) result tokens.new }
     {
         if tokens.eat_key(Keyword::KwAnd) {
@@ -408,7 +408,7 @@ impl<F: Fn(Global, &mut Tokens<'_>, usize, Wanted) -> Result<Content, Stop>> Gra
 
     #[tactic(auto, using(crate::proofs::Turns::turns), unfolding(pdw_reading::specs::Reading::many))]
     fn factors_after_and(&self, tokens: &mut Tokens<'_>) -> Result<ListOf<SqlCond>, Stop>
-        requires { Nests self.now.depth (F.pre self.now.group) (F.post self.now.group) }
+        requires { Nests self.now.depth (F.pre self.now.nested) (F.post self.now.nested) }
         ensures { Reads (many (begun_by (lexemes.is_key Keyword.KwAnd) (λ _. spec.factor (nested self.now.depth))) tokens.old) result tokens.new }
     {
         let mut found = ListOf::new(self.alloc);
@@ -424,7 +424,7 @@ impl<F: Fn(Global, &mut Tokens<'_>, usize, Wanted) -> Result<Content, Stop>> Gra
     // A term that begins with this factor.
     #[tactic(auto, unfolding(pdw_reading::specs::ReadConds::term_from))]
     fn term_from(&self, tokens: &mut Tokens<'_>, first: SqlCond) -> Result<SqlCond, Stop>
-        requires { Nests self.now.depth (F.pre self.now.group) (F.post self.now.group) }
+        requires { Nests self.now.depth (F.pre self.now.nested) (F.post self.now.nested) }
         ensures { Reads (spec.term_from (nested self.now.depth) first tokens.old) result tokens.new }
     {
         match self.factors_after_and(tokens) {
@@ -438,7 +438,7 @@ impl<F: Fn(Global, &mut Tokens<'_>, usize, Wanted) -> Result<Content, Stop>> Gra
 
     #[tactic(auto, unfolding(pdw_reading::specs::ReadConds::term))]
     fn term(&self, tokens: &mut Tokens<'_>) -> Result<SqlCond, Stop>
-        requires { Nests self.now.depth (F.pre self.now.group) (F.post self.now.group) }
+        requires { Nests self.now.depth (F.pre self.now.nested) (F.post self.now.nested) }
         ensures { Reads (spec.term (nested self.now.depth) tokens.old) result tokens.new }
     {
         let first = self.factor(tokens)?;
@@ -448,7 +448,7 @@ impl<F: Fn(Global, &mut Tokens<'_>, usize, Wanted) -> Result<Content, Stop>> Gra
     // The condition after OR, if that comes next.
     #[tactic(auto, unfolding(pdw_reading::specs::Reading::eat))]
     fn term_after_or(&self, tokens: &mut Tokens<'_>) -> Result<Option<SqlCond>, Stop>
-        requires { Nests self.now.depth (F.pre self.now.group) (F.post self.now.group) }
+        requires { Nests self.now.depth (F.pre self.now.nested) (F.post self.now.nested) }
         ensures { Reads (begun_by (lexemes.is_key Keyword.KwOr) (λ _. spec.term (nested self.now.depth)) tokens.old) result tokens.new }
     {
         if tokens.eat_key(Keyword::KwOr) {
@@ -460,7 +460,7 @@ impl<F: Fn(Global, &mut Tokens<'_>, usize, Wanted) -> Result<Content, Stop>> Gra
 
     #[tactic(auto, using(crate::proofs::Turns::turns), unfolding(pdw_reading::specs::Reading::many))]
     fn terms_after_or(&self, tokens: &mut Tokens<'_>) -> Result<ListOf<SqlCond>, Stop>
-        requires { Nests self.now.depth (F.pre self.now.group) (F.post self.now.group) }
+        requires { Nests self.now.depth (F.pre self.now.nested) (F.post self.now.nested) }
         ensures { Reads (many (begun_by (lexemes.is_key Keyword.KwOr) (λ _. spec.term (nested self.now.depth))) tokens.old) result tokens.new }
     {
         let mut found = ListOf::new(self.alloc);
@@ -476,7 +476,7 @@ impl<F: Fn(Global, &mut Tokens<'_>, usize, Wanted) -> Result<Content, Stop>> Gra
     // A condition that begins with this term.
     #[tactic(auto, unfolding(pdw_reading::specs::ReadConds::cond_from))]
     fn cond_from(&self, tokens: &mut Tokens<'_>, first: SqlCond) -> Result<SqlCond, Stop>
-        requires { Nests self.now.depth (F.pre self.now.group) (F.post self.now.group) }
+        requires { Nests self.now.depth (F.pre self.now.nested) (F.post self.now.nested) }
         ensures { Reads (spec.cond_from (nested self.now.depth) first tokens.old) result tokens.new }
     {
         match self.terms_after_or(tokens) {
@@ -490,7 +490,7 @@ impl<F: Fn(Global, &mut Tokens<'_>, usize, Wanted) -> Result<Content, Stop>> Gra
 
     #[tactic(auto, unfolding(pdw_reading::specs::ReadConds::cond))]
     pub fn cond(&self, tokens: &mut Tokens<'_>) -> Result<SqlCond, Stop>
-        requires { Nests self.now.depth (F.pre self.now.group) (F.post self.now.group) }
+        requires { Nests self.now.depth (F.pre self.now.nested) (F.post self.now.nested) }
         ensures { Reads (spec.cond (nested self.now.depth) tokens.old) result tokens.new }
     {
         let first = self.term(tokens)?;
@@ -500,7 +500,7 @@ impl<F: Fn(Global, &mut Tokens<'_>, usize, Wanted) -> Result<Content, Stop>> Gra
     // A condition that begins with this one, which no NOT stands before.
     #[tactic(auto, unfolding(pdw_reading::specs::ReadConds::condition_from))]
     fn condition_from(&self, tokens: &mut Tokens<'_>, first: SqlCond) -> Result<SqlCond, Stop>
-        requires { Nests self.now.depth (F.pre self.now.group) (F.post self.now.group) }
+        requires { Nests self.now.depth (F.pre self.now.nested) (F.post self.now.nested) }
         ensures { Reads (spec.condition_from (nested self.now.depth) first tokens.old) result tokens.new }
     {
         let test = test_from(self.alloc, tokens, first)?;
@@ -511,7 +511,7 @@ impl<F: Fn(Global, &mut Tokens<'_>, usize, Wanted) -> Result<Content, Stop>> Gra
     // What a condition or an expression goes on to.
     #[tactic(auto, unfolding(pdw_reading::specs::ReadConds::goes_on))]
     fn operand_from(&self, tokens: &mut Tokens<'_>, first: Operand) -> Result<Operand, Stop>
-        requires { Nests self.now.depth (F.pre self.now.group) (F.post self.now.group) }
+        requires { Nests self.now.depth (F.pre self.now.nested) (F.post self.now.nested) }
         ensures { Reads (spec.operand_from (nested self.now.depth) first tokens.old) result tokens.new }
     {
         match first {
@@ -529,7 +529,7 @@ impl<F: Fn(Global, &mut Tokens<'_>, usize, Wanted) -> Result<Content, Stop>> Gra
     /// A condition or an expression.
     #[tactic(auto, unfolding(pdw_reading::specs::ReadConds::operand))]
     pub fn operand(&self, tokens: &mut Tokens<'_>) -> Result<Operand, Stop>
-        requires { Nests self.now.depth (F.pre self.now.group) (F.post self.now.group) }
+        requires { Nests self.now.depth (F.pre self.now.nested) (F.post self.now.nested) }
         ensures { Reads (spec.operand (nested self.now.depth) tokens.old) result tokens.new }
     {
         if tokens.sees_key(Keyword::KwNot) {

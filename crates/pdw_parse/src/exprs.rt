@@ -103,14 +103,14 @@ fn column_value(alloc: Global, tokens: &mut Tokens<'_>, name: &Str) -> Result<Sq
 impl<F: Fn(Global, &mut Tokens<'_>, usize, Wanted) -> Result<Content, Stop>> Grammar<F> {
     // What an aggregate of this kind is of.
     fn aggregated(&self, tokens: &mut Tokens<'_>, kind: AggKind) -> Result<SqlExpr, Stop>
-        requires { Nests self.now.depth (F.pre self.now.group) (F.post self.now.group) }
+        requires { Nests self.now.depth (F.pre self.now.nested) (F.post self.now.nested) }
         ensures { Reads (spec.aggregate_by (nested self.now.depth) kind tokens.old) result tokens.new }
     {
         if let AggKind::Count = kind {
-            let counted = self.counted_group(tokens)?;
+            let counted = self.nested_counted(tokens)?;
             return Ok(count_of(self.alloc, counted)?);
         }
-        let value = self.expr_group(tokens)?;
+        let value = self.nested_expr(tokens)?;
         Ok(SqlExpr::Agg {
             kind,
             arg: Some(Boxed::new(self.alloc, value)?),
@@ -119,7 +119,7 @@ impl<F: Fn(Global, &mut Tokens<'_>, usize, Wanted) -> Result<Content, Stop>> Gra
 
     #[tactic(auto, unfolding(pdw_reading::specs::ReadExprs::aggregate, pdw_reading::specs::Reading::take))]
     fn aggregate(&self, tokens: &mut Tokens<'_>) -> Result<SqlExpr, Stop>
-        requires { Nests self.now.depth (F.pre self.now.group) (F.post self.now.group) }
+        requires { Nests self.now.depth (F.pre self.now.nested) (F.post self.now.nested) }
         ensures { Reads (spec.aggregate (nested self.now.depth) tokens.old) result tokens.new }
     {
         let kind = tokens.taken(aggregate_of(tokens.peek()))?;
@@ -128,7 +128,7 @@ impl<F: Fn(Global, &mut Tokens<'_>, usize, Wanted) -> Result<Content, Stop>> Gra
 
     #[tactic(auto, unfolding(pdw_reading::specs::ReadExprs::value))]
     fn value(&self, tokens: &mut Tokens<'_>) -> Result<SqlExpr, Stop>
-        requires { Nests self.now.depth (F.pre self.now.group) (F.post self.now.group) }
+        requires { Nests self.now.depth (F.pre self.now.nested) (F.post self.now.nested) }
         ensures { Reads (spec.value (nested self.now.depth) tokens.old) result tokens.new }
     {
         match tokens.peek() {
@@ -146,7 +146,7 @@ impl<F: Fn(Global, &mut Tokens<'_>, usize, Wanted) -> Result<Content, Stop>> Gra
             }
             Some(Lexeme::Key(_)) => self.aggregate(tokens),
             _ => {
-                let inner = self.expr_group(tokens)?;
+                let inner = self.nested_expr(tokens)?;
                 Ok(SqlExpr::Paren(Boxed::new(self.alloc, inner)?))
             }
         }
@@ -154,7 +154,7 @@ impl<F: Fn(Global, &mut Tokens<'_>, usize, Wanted) -> Result<Content, Stop>> Gra
 
     #[tactic(auto, unfolding(pdw_reading::specs::ReadExprs::signed, pdw_reading::specs::Reading::take_if))]
     fn signed(&self, tokens: &mut Tokens<'_>) -> Result<SqlExpr, Stop>
-        requires { Nests self.now.depth (F.pre self.now.group) (F.post self.now.group) }
+        requires { Nests self.now.depth (F.pre self.now.nested) (F.post self.now.nested) }
         ensures { Reads (spec.signed (nested self.now.depth) tokens.old) result tokens.new }
     {
         let minus = tokens.taken_if(minus_of(tokens.peek()));
@@ -165,7 +165,7 @@ impl<F: Fn(Global, &mut Tokens<'_>, usize, Wanted) -> Result<Content, Stop>> Gra
     // An operator and its right operand, if an operator comes next.
     #[tactic(auto, unfolding(pdw_reading::specs::Reading::take_if))]
     fn factor_operation(&self, tokens: &mut Tokens<'_>) -> Result<Option<(Arith, SqlExpr)>, Stop>
-        requires { Nests self.now.depth (F.pre self.now.group) (F.post self.now.group) }
+        requires { Nests self.now.depth (F.pre self.now.nested) (F.post self.now.nested) }
         ensures { Reads (spec.operations lexemes.factor_operator_of (spec.signed (nested self.now.depth)) tokens.old) result tokens.new }
     {
         match tokens.taken_if(factor_operator_of(tokens.peek())) {
@@ -177,7 +177,7 @@ impl<F: Fn(Global, &mut Tokens<'_>, usize, Wanted) -> Result<Content, Stop>> Gra
     // The operators of a product with their right operands.
     #[tactic(auto, using(crate::proofs::Turns::turns), unfolding(pdw_reading::specs::Reading::many))]
     fn factor_operations(&self, tokens: &mut Tokens<'_>) -> Result<ListOf<(Arith, SqlExpr)>, Stop>
-        requires { Nests self.now.depth (F.pre self.now.group) (F.post self.now.group) }
+        requires { Nests self.now.depth (F.pre self.now.nested) (F.post self.now.nested) }
         ensures { Reads (many (spec.operations lexemes.factor_operator_of (spec.signed (nested self.now.depth))) tokens.old) result tokens.new }
     {
         let mut found = ListOf::new(self.alloc);
@@ -193,7 +193,7 @@ impl<F: Fn(Global, &mut Tokens<'_>, usize, Wanted) -> Result<Content, Stop>> Gra
     /// A product that begins with this operand.
     #[tactic(auto, unfolding(pdw_reading::specs::ReadExprs::product_from))]
     fn product_from(&self, tokens: &mut Tokens<'_>, first: SqlExpr) -> Result<SqlExpr, Stop>
-        requires { Nests self.now.depth (F.pre self.now.group) (F.post self.now.group) }
+        requires { Nests self.now.depth (F.pre self.now.nested) (F.post self.now.nested) }
         ensures { Reads (spec.product_from (nested self.now.depth) first tokens.old) result tokens.new }
     {
         match self.factor_operations(tokens) {
@@ -207,7 +207,7 @@ impl<F: Fn(Global, &mut Tokens<'_>, usize, Wanted) -> Result<Content, Stop>> Gra
 
     #[tactic(auto, unfolding(pdw_reading::specs::ReadExprs::product))]
     fn product(&self, tokens: &mut Tokens<'_>) -> Result<SqlExpr, Stop>
-        requires { Nests self.now.depth (F.pre self.now.group) (F.post self.now.group) }
+        requires { Nests self.now.depth (F.pre self.now.nested) (F.post self.now.nested) }
         ensures { Reads (spec.product (nested self.now.depth) tokens.old) result tokens.new }
     {
         let first = self.signed(tokens)?;
@@ -217,7 +217,7 @@ impl<F: Fn(Global, &mut Tokens<'_>, usize, Wanted) -> Result<Content, Stop>> Gra
     // An operator and its right operand, if an operator comes next.
     #[tactic(auto, unfolding(pdw_reading::specs::Reading::take_if))]
     fn term_operation(&self, tokens: &mut Tokens<'_>) -> Result<Option<(Arith, SqlExpr)>, Stop>
-        requires { Nests self.now.depth (F.pre self.now.group) (F.post self.now.group) }
+        requires { Nests self.now.depth (F.pre self.now.nested) (F.post self.now.nested) }
         ensures { Reads (spec.operations lexemes.term_operator_of (spec.product (nested self.now.depth)) tokens.old) result tokens.new }
     {
         match tokens.taken_if(term_operator_of(tokens.peek())) {
@@ -229,7 +229,7 @@ impl<F: Fn(Global, &mut Tokens<'_>, usize, Wanted) -> Result<Content, Stop>> Gra
     // The operators of a sum with their right operands.
     #[tactic(auto, using(crate::proofs::Turns::turns), unfolding(pdw_reading::specs::Reading::many))]
     fn term_operations(&self, tokens: &mut Tokens<'_>) -> Result<ListOf<(Arith, SqlExpr)>, Stop>
-        requires { Nests self.now.depth (F.pre self.now.group) (F.post self.now.group) }
+        requires { Nests self.now.depth (F.pre self.now.nested) (F.post self.now.nested) }
         ensures { Reads (many (spec.operations lexemes.term_operator_of (spec.product (nested self.now.depth))) tokens.old) result tokens.new }
     {
         let mut found = ListOf::new(self.alloc);
@@ -245,7 +245,7 @@ impl<F: Fn(Global, &mut Tokens<'_>, usize, Wanted) -> Result<Content, Stop>> Gra
     // A sum that begins with this operand.
     #[tactic(auto, unfolding(pdw_reading::specs::ReadExprs::sum_from))]
     fn sum_from(&self, tokens: &mut Tokens<'_>, first: SqlExpr) -> Result<SqlExpr, Stop>
-        requires { Nests self.now.depth (F.pre self.now.group) (F.post self.now.group) }
+        requires { Nests self.now.depth (F.pre self.now.nested) (F.post self.now.nested) }
         ensures { Reads (spec.sum_from (nested self.now.depth) first tokens.old) result tokens.new }
     {
         match self.term_operations(tokens) {
@@ -259,7 +259,7 @@ impl<F: Fn(Global, &mut Tokens<'_>, usize, Wanted) -> Result<Content, Stop>> Gra
 
     #[tactic(auto, unfolding(pdw_reading::specs::ReadExprs::expr))]
     pub fn expr(&self, tokens: &mut Tokens<'_>) -> Result<SqlExpr, Stop>
-        requires { Nests self.now.depth (F.pre self.now.group) (F.post self.now.group) }
+        requires { Nests self.now.depth (F.pre self.now.nested) (F.post self.now.nested) }
         ensures { Reads (spec.expr (nested self.now.depth) tokens.old) result tokens.new }
     {
         let first = self.product(tokens)?;
@@ -269,7 +269,7 @@ impl<F: Fn(Global, &mut Tokens<'_>, usize, Wanted) -> Result<Content, Stop>> Gra
     /// An expression that begins with this value.
     #[tactic(auto, unfolding(pdw_reading::specs::ReadExprs::expr_from))]
     pub fn expr_from(&self, tokens: &mut Tokens<'_>, first: SqlExpr) -> Result<SqlExpr, Stop>
-        requires { Nests self.now.depth (F.pre self.now.group) (F.post self.now.group) }
+        requires { Nests self.now.depth (F.pre self.now.nested) (F.post self.now.nested) }
         ensures { Reads (spec.expr_from (nested self.now.depth) first tokens.old) result tokens.new }
     {
         let product = self.product_from(tokens, first)?;
@@ -279,7 +279,7 @@ impl<F: Fn(Global, &mut Tokens<'_>, usize, Wanted) -> Result<Content, Stop>> Gra
     /// What COUNT counts: None is `*`.
     #[tactic(auto, unfolding(pdw_reading::specs::ReadExprs::counted))]
     pub fn counted(&self, tokens: &mut Tokens<'_>) -> Result<Option<SqlExpr>, Stop>
-        requires { Nests self.now.depth (F.pre self.now.group) (F.post self.now.group) }
+        requires { Nests self.now.depth (F.pre self.now.nested) (F.post self.now.nested) }
         ensures { Reads (spec.counted (nested self.now.depth) tokens.old) result tokens.new }
     {
         if tokens.eat_sign(Sign::Star) {
@@ -291,7 +291,7 @@ impl<F: Fn(Global, &mut Tokens<'_>, usize, Wanted) -> Result<Content, Stop>> Gra
     // The expression after a comma, if one comes next.
     #[tactic(auto, unfolding(pdw_reading::specs::Reading::eat))]
     fn expr_after_comma(&self, tokens: &mut Tokens<'_>) -> Result<Option<SqlExpr>, Stop>
-        requires { Nests self.now.depth (F.pre self.now.group) (F.post self.now.group) }
+        requires { Nests self.now.depth (F.pre self.now.nested) (F.post self.now.nested) }
         ensures { Reads (spec.after_comma (spec.expr (nested self.now.depth)) tokens.old) result tokens.new }
     {
         if tokens.eat_sign(Sign::Comma) {
@@ -303,7 +303,7 @@ impl<F: Fn(Global, &mut Tokens<'_>, usize, Wanted) -> Result<Content, Stop>> Gra
 
     #[tactic(auto, using(crate::proofs::Turns::turns), unfolding(pdw_reading::specs::Reading::many))]
     fn exprs_after_commas(&self, tokens: &mut Tokens<'_>) -> Result<ListOf<SqlExpr>, Stop>
-        requires { Nests self.now.depth (F.pre self.now.group) (F.post self.now.group) }
+        requires { Nests self.now.depth (F.pre self.now.nested) (F.post self.now.nested) }
         ensures { Reads (many (spec.after_comma (spec.expr (nested self.now.depth))) tokens.old) result tokens.new }
     {
         let mut found = ListOf::new(self.alloc);
@@ -319,7 +319,7 @@ impl<F: Fn(Global, &mut Tokens<'_>, usize, Wanted) -> Result<Content, Stop>> Gra
     /// Expressions with commas between them.
     #[tactic(auto, unfolding(pdw_reading::specs::ReadExprs::listed))]
     pub fn exprs(&self, tokens: &mut Tokens<'_>) -> Result<ListOf<SqlExpr>, Stop>
-        requires { Nests self.now.depth (F.pre self.now.group) (F.post self.now.group) }
+        requires { Nests self.now.depth (F.pre self.now.nested) (F.post self.now.nested) }
         ensures { Reads (spec.listed (spec.expr (nested self.now.depth)) tokens.old) result tokens.new }
     {
         let first = self.expr(tokens)?;

@@ -14,20 +14,20 @@ pub struct Grammar<F> {
     /// How many more parentheses may be open.
     pub depth: usize,
     /// Reads a pair of parentheses with what it holds.
-    pub group: F,
+    pub nested: F,
 }
 
 impl<F: Fn(Global, &mut Tokens<'_>, usize, Wanted) -> Result<Content, Stop>> Grammar<F> {
     fn content(&self, tokens: &mut Tokens<'_>, wanted: Wanted) -> Result<Content, Stop>
-        requires { Nests self.now.depth (F.pre self.now.group) (F.post self.now.group) }
+        requires { Nests self.now.depth (F.pre self.now.nested) (F.post self.now.nested) }
         ensures { Reads (content_by (nested self.now.depth) wanted tokens.old) result tokens.new }
     {
-        (self.group)(self.alloc, tokens, self.depth, wanted)
+        (self.nested)(self.alloc, tokens, self.depth, wanted)
     }
 
     /// `( expr )`
-    pub fn expr_group(&self, tokens: &mut Tokens<'_>) -> Result<SqlExpr, Stop>
-        requires { Nests self.now.depth (F.pre self.now.group) (F.post self.now.group) }
+    pub fn nested_expr(&self, tokens: &mut Tokens<'_>) -> Result<SqlExpr, Stop>
+        requires { Nests self.now.depth (F.pre self.now.nested) (F.post self.now.nested) }
         ensures { Reads ((nested self.now.depth).expr tokens.old) result tokens.new }
     {
         match self.content(tokens, Wanted::Expr)? {
@@ -37,8 +37,8 @@ impl<F: Fn(Global, &mut Tokens<'_>, usize, Wanted) -> Result<Content, Stop>> Gra
     }
 
     /// `( * )`, which gives None, or `( expr )`
-    pub fn counted_group(&self, tokens: &mut Tokens<'_>) -> Result<Option<SqlExpr>, Stop>
-        requires { Nests self.now.depth (F.pre self.now.group) (F.post self.now.group) }
+    pub fn nested_counted(&self, tokens: &mut Tokens<'_>) -> Result<Option<SqlExpr>, Stop>
+        requires { Nests self.now.depth (F.pre self.now.nested) (F.post self.now.nested) }
         ensures { Reads ((nested self.now.depth).counted tokens.old) result tokens.new }
     {
         match self.content(tokens, Wanted::Counted)? {
@@ -48,8 +48,8 @@ impl<F: Fn(Global, &mut Tokens<'_>, usize, Wanted) -> Result<Content, Stop>> Gra
     }
 
     /// `( cond )` or `( expr )`
-    pub fn operand_group(&self, tokens: &mut Tokens<'_>) -> Result<Operand, Stop>
-        requires { Nests self.now.depth (F.pre self.now.group) (F.post self.now.group) }
+    pub fn nested_operand(&self, tokens: &mut Tokens<'_>) -> Result<Operand, Stop>
+        requires { Nests self.now.depth (F.pre self.now.nested) (F.post self.now.nested) }
         ensures { Reads ((nested self.now.depth).operand tokens.old) result tokens.new }
     {
         match self.content(tokens, Wanted::Operand)? {
@@ -59,8 +59,8 @@ impl<F: Fn(Global, &mut Tokens<'_>, usize, Wanted) -> Result<Content, Stop>> Gra
     }
 
     /// `( query )` or `( expr { , expr } )`
-    pub fn among_group(&self, tokens: &mut Tokens<'_>) -> Result<Among, Stop>
-        requires { Nests self.now.depth (F.pre self.now.group) (F.post self.now.group) }
+    pub fn nested_among(&self, tokens: &mut Tokens<'_>) -> Result<Among, Stop>
+        requires { Nests self.now.depth (F.pre self.now.nested) (F.post self.now.nested) }
         ensures { Reads ((nested self.now.depth).among tokens.old) result tokens.new }
     {
         match self.content(tokens, Wanted::Among)? {
@@ -70,8 +70,8 @@ impl<F: Fn(Global, &mut Tokens<'_>, usize, Wanted) -> Result<Content, Stop>> Gra
     }
 
     /// `( query )`
-    pub fn query_group(&self, tokens: &mut Tokens<'_>) -> Result<Query, Stop>
-        requires { Nests self.now.depth (F.pre self.now.group) (F.post self.now.group) }
+    pub fn nested_query(&self, tokens: &mut Tokens<'_>) -> Result<Query, Stop>
+        requires { Nests self.now.depth (F.pre self.now.nested) (F.post self.now.nested) }
         ensures { Reads ((nested self.now.depth).query tokens.old) result tokens.new }
     {
         match self.content(tokens, Wanted::Query)? {
@@ -81,8 +81,8 @@ impl<F: Fn(Global, &mut Tokens<'_>, usize, Wanted) -> Result<Content, Stop>> Gra
     }
 
     /// `( query )` or `( tableref )`
-    pub fn source_group(&self, tokens: &mut Tokens<'_>) -> Result<Source, Stop>
-        requires { Nests self.now.depth (F.pre self.now.group) (F.post self.now.group) }
+    pub fn nested_source(&self, tokens: &mut Tokens<'_>) -> Result<Source, Stop>
+        requires { Nests self.now.depth (F.pre self.now.nested) (F.post self.now.nested) }
         ensures { Reads ((nested self.now.depth).source tokens.old) result tokens.new }
     {
         match self.content(tokens, Wanted::Source)? {

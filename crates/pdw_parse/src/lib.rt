@@ -4,9 +4,9 @@
 mod conds;
 mod exprs;
 mod grammar;
-mod groups;
 mod lexemes;
 mod lists;
+mod parentheses;
 mod parser;
 mod queries;
 mod statements;

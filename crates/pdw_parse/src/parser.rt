@@ -6,7 +6,7 @@ ghost use Rattle.pdw_reading.specs.Spells.{Spells};
 ghost use Rattle.pdw_reading.specs.Tokens.{lexemes};
 
 use crate::grammar::Grammar;
-use crate::groups::group;
+use crate::parentheses::enclosed;
 use crate::tokens::Tokens;
 use pdw_lex::Token;
 use pdw_reading::{MOST_OPEN, ParseError, Stop};
@@ -34,7 +34,7 @@ pub fn parse(alloc: Global, tokens: &[Token], end: u32) -> Result<ListOf<Stateme
     let rules = Grammar {
         alloc,
         depth: MOST_OPEN,
-        group,
+        nested: enclosed,
     };
     match rules.script(&mut cursor) {
         Ok(statements) => Ok(statements),

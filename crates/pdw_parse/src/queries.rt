@@ -160,7 +160,7 @@ impl<F: Fn(Global, &mut Tokens<'_>, usize, Wanted) -> Result<Content, Stop>> Gra
     // An item that begins with this value.
     #[tactic(auto, unfolding(pdw_reading::specs::ReadQueries::made_from))]
     fn made_from(&self, tokens: &mut Tokens<'_>, first: SqlExpr) -> Result<Item, Stop>
-        requires { Nests self.now.depth (F.pre self.now.group) (F.post self.now.group) }
+        requires { Nests self.now.depth (F.pre self.now.nested) (F.post self.now.nested) }
         ensures { Reads (spec.made_from (nested self.now.depth) first tokens.old) result tokens.new }
     {
         let value = self.expr_from(tokens, first)?;
@@ -169,7 +169,7 @@ impl<F: Fn(Global, &mut Tokens<'_>, usize, Wanted) -> Result<Content, Stop>> Gra
 
     // An item that begins with this name and a dot.
     fn dotted(&self, tokens: &mut Tokens<'_>, first: Str) -> Result<Item, Stop>
-        requires { Nests self.now.depth (F.pre self.now.group) (F.post self.now.group) }
+        requires { Nests self.now.depth (F.pre self.now.nested) (F.post self.now.nested) }
         ensures { Reads (spec.dotted (nested self.now.depth) first tokens.old) result tokens.new }
     {
         if tokens.eat_sign(Sign::Star) {
@@ -187,7 +187,7 @@ impl<F: Fn(Global, &mut Tokens<'_>, usize, Wanted) -> Result<Content, Stop>> Gra
 
     // An item that begins with this name.
     fn named(&self, tokens: &mut Tokens<'_>, first: Str) -> Result<Item, Stop>
-        requires { Nests self.now.depth (F.pre self.now.group) (F.post self.now.group) }
+        requires { Nests self.now.depth (F.pre self.now.nested) (F.post self.now.nested) }
         ensures { Reads (spec.named (nested self.now.depth) first tokens.old) result tokens.new }
     {
         if tokens.eat_sign(Sign::Dot) {
@@ -204,7 +204,7 @@ impl<F: Fn(Global, &mut Tokens<'_>, usize, Wanted) -> Result<Content, Stop>> Gra
 
     #[tactic(auto, unfolding(pdw_reading::specs::ReadQueries::item))]
     fn item(&self, tokens: &mut Tokens<'_>) -> Result<Item, Stop>
-        requires { Nests self.now.depth (F.pre self.now.group) (F.post self.now.group) }
+        requires { Nests self.now.depth (F.pre self.now.nested) (F.post self.now.nested) }
         ensures { Reads (spec.item (nested self.now.depth) tokens.old) result tokens.new }
     {
         if let Some(Lexeme::Name(name)) = tokens.peek() {
@@ -219,7 +219,7 @@ impl<F: Fn(Global, &mut Tokens<'_>, usize, Wanted) -> Result<Content, Stop>> Gra
     // The item after a comma, if one comes next.
     #[tactic(auto, unfolding(pdw_reading::specs::Reading::eat))]
     fn item_after_comma(&self, tokens: &mut Tokens<'_>) -> Result<Option<Item>, Stop>
-        requires { Nests self.now.depth (F.pre self.now.group) (F.post self.now.group) }
+        requires { Nests self.now.depth (F.pre self.now.nested) (F.post self.now.nested) }
         ensures { Reads (after_comma (spec.item (nested self.now.depth)) tokens.old) result tokens.new }
     {
         if tokens.eat_sign(Sign::Comma) {
@@ -231,7 +231,7 @@ impl<F: Fn(Global, &mut Tokens<'_>, usize, Wanted) -> Result<Content, Stop>> Gra
 
     #[tactic(auto, using(crate::proofs::Turns::turns), unfolding(pdw_reading::specs::Reading::many))]
     fn items_after_commas(&self, tokens: &mut Tokens<'_>) -> Result<ListOf<Item>, Stop>
-        requires { Nests self.now.depth (F.pre self.now.group) (F.post self.now.group) }
+        requires { Nests self.now.depth (F.pre self.now.nested) (F.post self.now.nested) }
         ensures { Reads (many (after_comma (spec.item (nested self.now.depth))) tokens.old) result tokens.new }
     {
         let mut found = ListOf::new(self.alloc);
@@ -246,7 +246,7 @@ impl<F: Fn(Global, &mut Tokens<'_>, usize, Wanted) -> Result<Content, Stop>> Gra
 
     #[tactic(auto, unfolding(pdw_reading::specs::ReadQueries::items, pdw_reading::specs::ReadExprs::listed))]
     fn items(&self, tokens: &mut Tokens<'_>) -> Result<Items, Stop>
-        requires { Nests self.now.depth (F.pre self.now.group) (F.post self.now.group) }
+        requires { Nests self.now.depth (F.pre self.now.nested) (F.post self.now.nested) }
         ensures { Reads (spec.items (nested self.now.depth) tokens.old) result tokens.new }
     {
         if tokens.eat_sign(Sign::Star) {
@@ -265,7 +265,7 @@ impl<F: Fn(Global, &mut Tokens<'_>, usize, Wanted) -> Result<Content, Stop>> Gra
     // The condition of WHERE, if that is written.
     #[tactic(auto, unfolding(pdw_reading::specs::ReadQueries::filter, pdw_reading::specs::Reading::eat))]
     fn filter(&self, tokens: &mut Tokens<'_>) -> Result<Option<SqlCond>, Stop>
-        requires { Nests self.now.depth (F.pre self.now.group) (F.post self.now.group) }
+        requires { Nests self.now.depth (F.pre self.now.nested) (F.post self.now.nested) }
         ensures { Reads (spec.filter (nested self.now.depth) tokens.old) result tokens.new }
     {
         if tokens.eat_key(Keyword::KwWhere) {
@@ -278,7 +278,7 @@ impl<F: Fn(Global, &mut Tokens<'_>, usize, Wanted) -> Result<Content, Stop>> Gra
     // The condition of HAVING, if that is written.
     #[tactic(auto, unfolding(pdw_reading::specs::ReadQueries::having, pdw_reading::specs::Reading::eat))]
     fn having(&self, tokens: &mut Tokens<'_>) -> Result<Option<SqlCond>, Stop>
-        requires { Nests self.now.depth (F.pre self.now.group) (F.post self.now.group) }
+        requires { Nests self.now.depth (F.pre self.now.nested) (F.post self.now.nested) }
         ensures { Reads (spec.having (nested self.now.depth) tokens.old) result tokens.new }
     {
         if tokens.eat_key(Keyword::KwHaving) {
@@ -299,7 +299,7 @@ impl<F: Fn(Global, &mut Tokens<'_>, usize, Wanted) -> Result<Content, Stop>> Gra
         filter: Option<SqlCond>,
         group: ListOf<ColRef>,
     ) -> Result<Query, Stop>
-        requires { Nests self.now.depth (F.pre self.now.group) (F.post self.now.group) }
+        requires { Nests self.now.depth (F.pre self.now.nested) (F.post self.now.nested) }
         ensures { Reads (spec.query_grouped (nested self.now.depth) distinct items from filter group tokens.old) result tokens.new }
     {
         match self.having(tokens) {
@@ -331,7 +331,7 @@ impl<F: Fn(Global, &mut Tokens<'_>, usize, Wanted) -> Result<Content, Stop>> Gra
         from: ListOf<TableRef>,
         filter: Option<SqlCond>,
     ) -> Result<Query, Stop>
-        requires { Nests self.now.depth (F.pre self.now.group) (F.post self.now.group) }
+        requires { Nests self.now.depth (F.pre self.now.nested) (F.post self.now.nested) }
         ensures { Reads (spec.query_filtered (nested self.now.depth) distinct items from filter tokens.old) result tokens.new }
     {
         match grouping(self.alloc, tokens) {
@@ -354,7 +354,7 @@ impl<F: Fn(Global, &mut Tokens<'_>, usize, Wanted) -> Result<Content, Stop>> Gra
         items: Items,
         from: ListOf<TableRef>,
     ) -> Result<Query, Stop>
-        requires { Nests self.now.depth (F.pre self.now.group) (F.post self.now.group) }
+        requires { Nests self.now.depth (F.pre self.now.nested) (F.post self.now.nested) }
         ensures { Reads (spec.query_of (nested self.now.depth) distinct items from tokens.old) result tokens.new }
     {
         match self.filter(tokens) {
@@ -375,7 +375,7 @@ impl<F: Fn(Global, &mut Tokens<'_>, usize, Wanted) -> Result<Content, Stop>> Gra
         distinct: bool,
         items: Items,
     ) -> Result<Query, Stop>
-        requires { Nests self.now.depth (F.pre self.now.group) (F.post self.now.group) }
+        requires { Nests self.now.depth (F.pre self.now.nested) (F.post self.now.nested) }
         ensures { Reads (spec.query_from (nested self.now.depth) distinct items tokens.old) result tokens.new }
     {
         tokens.take_key(Keyword::KwFrom)?;
@@ -385,7 +385,7 @@ impl<F: Fn(Global, &mut Tokens<'_>, usize, Wanted) -> Result<Content, Stop>> Gra
 
     #[tactic(auto, unfolding(pdw_reading::specs::ReadQueries::query))]
     pub fn query(&self, tokens: &mut Tokens<'_>) -> Result<Query, Stop>
-        requires { Nests self.now.depth (F.pre self.now.group) (F.post self.now.group) }
+        requires { Nests self.now.depth (F.pre self.now.nested) (F.post self.now.nested) }
         ensures { Reads (spec.query (nested self.now.depth) tokens.old) result tokens.new }
     {
         tokens.take_key(Keyword::KwSelect)?;
@@ -396,7 +396,7 @@ impl<F: Fn(Global, &mut Tokens<'_>, usize, Wanted) -> Result<Content, Stop>> Gra
 
     #[tactic(auto, unfolding(pdw_reading::specs::ReadQueries::select))]
     pub fn select(&self, tokens: &mut Tokens<'_>) -> Result<Select, Stop>
-        requires { Nests self.now.depth (F.pre self.now.group) (F.post self.now.group) }
+        requires { Nests self.now.depth (F.pre self.now.nested) (F.post self.now.nested) }
         ensures { Reads (spec.select (nested self.now.depth) tokens.old) result tokens.new }
     {
         let query = self.query(tokens)?;
@@ -412,7 +412,7 @@ impl<F: Fn(Global, &mut Tokens<'_>, usize, Wanted) -> Result<Content, Stop>> Gra
     /// What a value is looked for in.
     #[tactic(auto, unfolding(pdw_reading::specs::ReadQueries::among))]
     pub fn among(&self, tokens: &mut Tokens<'_>) -> Result<Among, Stop>
-        requires { Nests self.now.depth (F.pre self.now.group) (F.post self.now.group) }
+        requires { Nests self.now.depth (F.pre self.now.nested) (F.post self.now.nested) }
         ensures { Reads (spec.among (nested self.now.depth) tokens.old) result tokens.new }
     {
         if tokens.sees_key(Keyword::KwSelect) {
@@ -425,7 +425,7 @@ impl<F: Fn(Global, &mut Tokens<'_>, usize, Wanted) -> Result<Content, Stop>> Gra
     /// What stands in parentheses in FROM.
     #[tactic(auto, unfolding(pdw_reading::specs::ReadQueries::source))]
     pub fn source(&self, tokens: &mut Tokens<'_>) -> Result<Source, Stop>
-        requires { Nests self.now.depth (F.pre self.now.group) (F.post self.now.group) }
+        requires { Nests self.now.depth (F.pre self.now.nested) (F.post self.now.nested) }
         ensures { Reads (spec.source (nested self.now.depth) tokens.old) result tokens.new }
     {
         if tokens.sees_key(Keyword::KwSelect) {

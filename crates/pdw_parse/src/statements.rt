@@ -280,7 +280,7 @@ fn setting(tokens: &mut Tokens<'_>) -> Result<Statement, Stop>
 impl<F: Fn(Global, &mut Tokens<'_>, usize, Wanted) -> Result<Content, Stop>> Grammar<F> {
     #[tactic(auto, unfolding(pdw_reading::specs::ReadStatements::explain))]
     fn explain(&self, tokens: &mut Tokens<'_>) -> Result<Statement, Stop>
-        requires { Nests self.now.depth (F.pre self.now.group) (F.post self.now.group) }
+        requires { Nests self.now.depth (F.pre self.now.nested) (F.post self.now.nested) }
         ensures { Reads (spec.explain (nested self.now.depth) tokens.old) result tokens.new }
     {
         tokens.take_word("explain")?;
@@ -293,7 +293,7 @@ impl<F: Fn(Global, &mut Tokens<'_>, usize, Wanted) -> Result<Content, Stop>> Gra
 
     #[tactic(auto, unfolding(pdw_reading::specs::ReadStatements::profile))]
     fn profile(&self, tokens: &mut Tokens<'_>) -> Result<Statement, Stop>
-        requires { Nests self.now.depth (F.pre self.now.group) (F.post self.now.group) }
+        requires { Nests self.now.depth (F.pre self.now.nested) (F.post self.now.nested) }
         ensures { Reads (spec.profile (nested self.now.depth) tokens.old) result tokens.new }
     {
         tokens.take_word("profile")?;
@@ -302,7 +302,7 @@ impl<F: Fn(Global, &mut Tokens<'_>, usize, Wanted) -> Result<Content, Stop>> Gra
 
     #[tactic(auto, unfolding(pdw_reading::specs::ReadStatements::check_plan))]
     fn check_plan(&self, tokens: &mut Tokens<'_>) -> Result<Statement, Stop>
-        requires { Nests self.now.depth (F.pre self.now.group) (F.post self.now.group) }
+        requires { Nests self.now.depth (F.pre self.now.nested) (F.post self.now.nested) }
         ensures { Reads (spec.check_plan (nested self.now.depth) tokens.old) result tokens.new }
     {
         tokens.take_word("check")?;
@@ -316,7 +316,7 @@ impl<F: Fn(Global, &mut Tokens<'_>, usize, Wanted) -> Result<Content, Stop>> Gra
     // A statement that begins with this word, which is still to be taken.
     #[tactic(auto, unfolding(pdw_reading::specs::ReadStatements::worded))]
     fn worded(&self, tokens: &mut Tokens<'_>, word: &str) -> Result<Statement, Stop>
-        requires { Nests self.now.depth (F.pre self.now.group) (F.post self.now.group) }
+        requires { Nests self.now.depth (F.pre self.now.nested) (F.post self.now.nested) }
         ensures { Reads (spec.worded (nested self.now.depth) word.now tokens.old) result tokens.new }
     {
         match word {
@@ -330,7 +330,7 @@ impl<F: Fn(Global, &mut Tokens<'_>, usize, Wanted) -> Result<Content, Stop>> Gra
 
     #[tactic(auto, unfolding(pdw_reading::specs::ReadStatements::statement))]
     fn statement(&self, tokens: &mut Tokens<'_>) -> Result<Statement, Stop>
-        requires { Nests self.now.depth (F.pre self.now.group) (F.post self.now.group) }
+        requires { Nests self.now.depth (F.pre self.now.nested) (F.post self.now.nested) }
         ensures { Reads (spec.statement (nested self.now.depth) tokens.old) result tokens.new }
     {
         match tokens.peek() {
@@ -347,7 +347,7 @@ impl<F: Fn(Global, &mut Tokens<'_>, usize, Wanted) -> Result<Content, Stop>> Gra
     // The next statement with its semicolon, if the script goes on.
     #[tactic(auto, unfolding(pdw_reading::specs::ReadStatements::next_statement))]
     fn next_statement(&self, tokens: &mut Tokens<'_>) -> Result<Option<Statement>, Stop>
-        requires { Nests self.now.depth (F.pre self.now.group) (F.post self.now.group) }
+        requires { Nests self.now.depth (F.pre self.now.nested) (F.post self.now.nested) }
         ensures { Reads (spec.next_statement (nested self.now.depth) tokens.old) result tokens.new }
     {
         if tokens.peek().is_none() {
@@ -366,7 +366,7 @@ impl<F: Fn(Global, &mut Tokens<'_>, usize, Wanted) -> Result<Content, Stop>> Gra
     /// All statements of a script.
     #[tactic(auto, using(crate::proofs::Turns::turns), unfolding(pdw_reading::specs::ReadStatements::script, pdw_reading::specs::Reading::many))]
     pub fn script(&self, tokens: &mut Tokens<'_>) -> Result<ListOf<Statement>, Stop>
-        requires { Nests self.now.depth (F.pre self.now.group) (F.post self.now.group) }
+        requires { Nests self.now.depth (F.pre self.now.nested) (F.post self.now.nested) }
         ensures { Reads (spec.script (nested self.now.depth) tokens.old) result tokens.new }
     {
         let mut found = ListOf::new(self.alloc);

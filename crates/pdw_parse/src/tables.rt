@@ -106,7 +106,7 @@ impl<F: Fn(Global, &mut Tokens<'_>, usize, Wanted) -> Result<Content, Stop>> Gra
 
     #[tactic(auto, unfolding(pdw_reading::specs::ReadTables::primary))]
     fn primary(&self, tokens: &mut Tokens<'_>) -> Result<Primary, Stop>
-        requires { Nests self.now.depth (F.pre self.now.group) (F.post self.now.group) }
+        requires { Nests self.now.depth (F.pre self.now.nested) (F.post self.now.nested) }
         ensures { Reads (spec.primary (nested self.now.depth) tokens.old) result tokens.new }
     {
         if let Some(Lexeme::Name(name)) = tokens.peek() {
@@ -115,7 +115,7 @@ impl<F: Fn(Global, &mut Tokens<'_>, usize, Wanted) -> Result<Content, Stop>> Gra
             let alias = alias(self.alloc, tokens)?;
             return Ok(Primary::Named { table, alias });
         }
-        let inner = self.source_group(tokens)?;
+        let inner = self.nested_source(tokens)?;
         self.after_source(tokens, inner)
     }
 
@@ -126,7 +126,7 @@ impl<F: Fn(Global, &mut Tokens<'_>, usize, Wanted) -> Result<Content, Stop>> Gra
         word: JoinWord,
         right: Primary,
     ) -> Result<JoinPart, Stop>
-        requires { Nests self.now.depth (F.pre self.now.group) (F.post self.now.group) }
+        requires { Nests self.now.depth (F.pre self.now.nested) (F.post self.now.nested) }
         ensures { Reads (spec.joined_on (nested self.now.depth) word right tokens.old) result tokens.new }
     {
         match self.cond(tokens) {
@@ -149,7 +149,7 @@ impl<F: Fn(Global, &mut Tokens<'_>, usize, Wanted) -> Result<Content, Stop>> Gra
         word: JoinWord,
         right: Primary,
     ) -> Result<JoinPart, Stop>
-        requires { Nests self.now.depth (F.pre self.now.group) (F.post self.now.group) }
+        requires { Nests self.now.depth (F.pre self.now.nested) (F.post self.now.nested) }
         ensures { Reads (spec.joined_by (nested self.now.depth) word right tokens.old) result tokens.new }
     {
         if let JoinWord::Cross = word {
@@ -171,7 +171,7 @@ impl<F: Fn(Global, &mut Tokens<'_>, usize, Wanted) -> Result<Content, Stop>> Gra
     // The rest of a join of this kind, from its word JOIN on.
     #[tactic(auto, unfolding(pdw_reading::specs::ReadTables::joined))]
     fn joined(&self, tokens: &mut Tokens<'_>, word: JoinWord) -> Result<JoinPart, Stop>
-        requires { Nests self.now.depth (F.pre self.now.group) (F.post self.now.group) }
+        requires { Nests self.now.depth (F.pre self.now.nested) (F.post self.now.nested) }
         ensures { Reads (spec.joined (nested self.now.depth) word tokens.old) result tokens.new }
     {
         tokens.take_key(Keyword::KwJoin)?;
@@ -182,7 +182,7 @@ impl<F: Fn(Global, &mut Tokens<'_>, usize, Wanted) -> Result<Content, Stop>> Gra
     // The join that comes next, if any.
     #[tactic(auto, unfolding(pdw_reading::specs::ReadTables::join))]
     fn join(&self, tokens: &mut Tokens<'_>) -> Result<Option<JoinPart>, Stop>
-        requires { Nests self.now.depth (F.pre self.now.group) (F.post self.now.group) }
+        requires { Nests self.now.depth (F.pre self.now.nested) (F.post self.now.nested) }
         ensures { Reads (spec.join (nested self.now.depth) tokens.old) result tokens.new }
     {
         match join_word(tokens) {
@@ -193,7 +193,7 @@ impl<F: Fn(Global, &mut Tokens<'_>, usize, Wanted) -> Result<Content, Stop>> Gra
 
     #[tactic(auto, using(crate::proofs::Turns::turns), unfolding(pdw_reading::specs::Reading::many))]
     fn joins(&self, tokens: &mut Tokens<'_>) -> Result<ListOf<JoinPart>, Stop>
-        requires { Nests self.now.depth (F.pre self.now.group) (F.post self.now.group) }
+        requires { Nests self.now.depth (F.pre self.now.nested) (F.post self.now.nested) }
         ensures { Reads (many (spec.join (nested self.now.depth)) tokens.old) result tokens.new }
     {
         let mut found = ListOf::new(self.alloc);
@@ -209,7 +209,7 @@ impl<F: Fn(Global, &mut Tokens<'_>, usize, Wanted) -> Result<Content, Stop>> Gra
     /// A table, and those that are joined to it.
     #[tactic(auto, unfolding(pdw_reading::specs::ReadTables::table_reference))]
     pub fn table_reference(&self, tokens: &mut Tokens<'_>) -> Result<TableRef, Stop>
-        requires { Nests self.now.depth (F.pre self.now.group) (F.post self.now.group) }
+        requires { Nests self.now.depth (F.pre self.now.nested) (F.post self.now.nested) }
         ensures { Reads (spec.table_reference (nested self.now.depth) tokens.old) result tokens.new }
     {
         let first = self.primary(tokens)?;
@@ -225,7 +225,7 @@ impl<F: Fn(Global, &mut Tokens<'_>, usize, Wanted) -> Result<Content, Stop>> Gra
     // The table reference after a comma, if one comes next.
     #[tactic(auto, unfolding(pdw_reading::specs::Reading::eat))]
     fn table_after_comma(&self, tokens: &mut Tokens<'_>) -> Result<Option<TableRef>, Stop>
-        requires { Nests self.now.depth (F.pre self.now.group) (F.post self.now.group) }
+        requires { Nests self.now.depth (F.pre self.now.nested) (F.post self.now.nested) }
         ensures { Reads (after_comma (spec.table_reference (nested self.now.depth)) tokens.old) result tokens.new }
     {
         if tokens.eat_sign(Sign::Comma) {
@@ -237,7 +237,7 @@ impl<F: Fn(Global, &mut Tokens<'_>, usize, Wanted) -> Result<Content, Stop>> Gra
 
     #[tactic(auto, using(crate::proofs::Turns::turns), unfolding(pdw_reading::specs::Reading::many))]
     fn tables_after_commas(&self, tokens: &mut Tokens<'_>) -> Result<ListOf<TableRef>, Stop>
-        requires { Nests self.now.depth (F.pre self.now.group) (F.post self.now.group) }
+        requires { Nests self.now.depth (F.pre self.now.nested) (F.post self.now.nested) }
         ensures { Reads (many (after_comma (spec.table_reference (nested self.now.depth))) tokens.old) result tokens.new }
     {
         let mut found = ListOf::new(self.alloc);
@@ -253,7 +253,7 @@ impl<F: Fn(Global, &mut Tokens<'_>, usize, Wanted) -> Result<Content, Stop>> Gra
     /// Table references with commas between them.
     #[tactic(auto, unfolding(pdw_reading::specs::ReadTables::tables, pdw_reading::specs::ReadExprs::listed))]
     pub fn tables(&self, tokens: &mut Tokens<'_>) -> Result<ListOf<TableRef>, Stop>
-        requires { Nests self.now.depth (F.pre self.now.group) (F.post self.now.group) }
+        requires { Nests self.now.depth (F.pre self.now.nested) (F.post self.now.nested) }
         ensures { Reads (spec.tables (nested self.now.depth) tokens.old) result tokens.new }
     {
         let first = self.table_reference(tokens)?;

@@ -8,7 +8,7 @@ use Rattle.pdw_lex.specs.declared.token.Lexeme.{Lexeme}
 use Rattle.pdw_lex.specs.declared.token.Lexeme.TheVariants.{Key, Sign}
 use Rattle.pdw_syntax.specs.Rule.{Rule, ◌>>=◌, ◌>>◌, ◌<$>◌, ◌or◌, pure, Empty, empty, One, Then, both, Either, first, second, Maybe, Many, Enclosed}
 use Rattle.pdw_syntax.specs.Lexemes.{is_key, key, same_keyword, truth_of}
-use Rattle.pdw_syntax.specs.Groups.{Groups}
+use Rattle.pdw_syntax.specs.Parentheses.{Parentheses}
 use Rattle.pdw_syntax.specs.Exprs.{expr as expr_rule}
 use Rattle.pdw_syntax.specs.Conds as rule
 use Rattle.pdw_syntax.specs.Conds.{negation, negated_by, tested, all_of, any_of}
@@ -61,22 +61,22 @@ test_rest_follows x y v rest t h = then_follows ends_expr (maybe_follows ends_ex
 
 -- ---- [ NOT ] test
 
-factor_into : (g : Groups) (w : List Lexeme) (y : SqlCond) → rule.factor g w y → Then negation (λ n. Then (rule.primary_condition g) (λ x. Then (test_rest x) (λ y. Empty (negated_by n y)))) w y
+factor_into : (g : Parentheses) (w : List Lexeme) (y : SqlCond) → rule.factor g w y → Then negation (λ n. Then (rule.primary_condition g) (λ x. Then (test_rest x) (λ y. Empty (negated_by n y)))) w y
 unfolding rule.factor rule.test
 factor_into g w y t = then_map (λ w a t. t) (λ n w y t. then_assoc w y t) w y t
 
-factor_back : (g : Groups) (w : List Lexeme) (y : SqlCond) → Then negation (λ n. Then (rule.primary_condition g) (λ x. Then (test_rest x) (λ y. Empty (negated_by n y)))) w y → rule.factor g w y
+factor_back : (g : Parentheses) (w : List Lexeme) (y : SqlCond) → Then negation (λ n. Then (rule.primary_condition g) (λ x. Then (test_rest x) (λ y. Empty (negated_by n y)))) w y → rule.factor g w y
 unfolding rule.factor rule.test
 factor_back g w y t = then_map (λ w a t. t) (λ n w y t. then_assoc_back w y t) w y t
 
 -- the first lexeme of a text that a primary condition begins
-condition_first : {A : Type 0} {S : SqlCond → Rule A} (g : Groups) (w : List Lexeme) (a : A) (rest : List Lexeme) → Then (rule.primary_condition g) S w a → starts_condition (next (w ++ rest)) ≡ true
+condition_first : {A : Type 0} {S : SqlCond → Rule A} (g : Parentheses) (w : List Lexeme) (a : A) (rest : List Lexeme) → Then (rule.primary_condition g) S w a → starts_condition (next (w ++ rest)) ≡ true
 condition_first g w a rest (both {a = x} u v t s) = ap starts_condition (next_append u v rest) ∙ begun u x (v ++ rest) (condition_begun g u x t)
   where
     begun : (u : List Lexeme) (x : SqlCond) (rest : List Lexeme) → Then (started_rule g) (completed_rule g) u x → starts_condition (next (u ++ rest)) ≡ true
     begun u x rest (both {a = o} u' v' t s) = ap starts_condition (next_append u' v' rest) ∙ started_first g u' o (v' ++ rest) t
 
-factor_law : {n : ℕ} {g g' : Groups} {k k' : Nested} → LevelLaw n g g' k k' → Lawful n (rule.factor g) (rule.factor g') (factor k) (factor k') ends_test
+factor_law : {n : ℕ} {g g' : Parentheses} {k k' : Nested} → LevelLaw n g g' k k' → Lawful n (rule.factor g) (rule.factor g') (factor k) (factor k') ends_test
 unfolding factor
 factor_law {g = g} {g' = g'} level = same_law (factor_into g) (factor_back g) (factor_back g')
     (then_law negation_law
@@ -86,7 +86,7 @@ factor_law {g = g} {g' = g'} level = same_law (factor_into g) (factor_back g) (f
 
 -- ---- factors with AND between them
 
-abbrev pub term_rest : Groups → SqlCond → Rule SqlCond
+abbrev pub term_rest : Parentheses → SqlCond → Rule SqlCond
 term_rest g x = all_of x <$> Many (key KwAnd >> rule.factor g)
 
 abbrev pub ends_term : Option Lexeme → Bool
@@ -96,21 +96,21 @@ test_ends_and : (o : Option Lexeme) → is_some (meaning_of (is_key KwAnd) o) �
 unfolding same_keyword
 test_ends_and o h = key_seen KwAnd ends_test refl o h
 
-term_from_law : {n : ℕ} {g g' : Groups} {k k' : Nested} → LevelLaw n g g' k k' → (x : SqlCond)
+term_from_law : {n : ℕ} {g g' : Parentheses} {k k' : Nested} → LevelLaw n g g' k k' → (x : SqlCond)
     → Lawful n (term_rest g x) (term_rest g' x) (term_from k x) (term_from k' x) ends_term
 unfolding term_from same_keyword
 term_from_law level x = made_law (all_of x) (many_law (begun_law (is_key KwAnd) refl refl (λ u. factor_law level)) (λ l. test_ends_and (Some l)))
 
-term_follows : (g : Groups) (x y : SqlCond) (v rest : List Lexeme) → term_rest g x v y → ends_term (next rest) ≡ true → ends_test (next (v ++ rest)) ≡ true
+term_follows : (g : Parentheses) (x y : SqlCond) (v rest : List Lexeme) → term_rest g x v y → ends_term (next rest) ≡ true → ends_test (next (v ++ rest)) ≡ true
 term_follows g x y v rest t h = many_made_follows ends_test test_ends_and v y rest t (and_left (ends_test (next rest)) _ h)
 
-term_law : {n : ℕ} {g g' : Groups} {k k' : Nested} → LevelLaw n g g' k k' → Lawful n (rule.term g) (rule.term g') (term k) (term k') ends_term
+term_law : {n : ℕ} {g g' : Parentheses} {k k' : Nested} → LevelLaw n g g' k k' → Lawful n (rule.term g) (rule.term g') (term k) (term k') ends_term
 unfolding term rule.term
 term_law {g = g} level = then_law (factor_law level) (term_from_law level) (term_follows g)
 
 -- ---- terms with OR between them
 
-abbrev pub cond_rest : Groups → SqlCond → Rule SqlCond
+abbrev pub cond_rest : Parentheses → SqlCond → Rule SqlCond
 cond_rest g x = any_of x <$> Many (key KwOr >> rule.term g)
 
 term_ends_or : (o : Option Lexeme) → is_some (meaning_of (is_key KwOr) o) ≡ true → ends_term o ≡ true
@@ -125,25 +125,25 @@ expr_ends None h = h
 term_ends : (o : Option Lexeme) → ends_cond o ≡ true → ends_term o ≡ true
 term_ends o h = both_hold (ends_test o) _ (both_hold (ends_expr o) _ (expr_ends o h) (ap is_some (no_key KwIs ends_cond refl o h))) (ap is_some (no_key KwAnd ends_cond refl o h))
 
-cond_from_law : {n : ℕ} {g g' : Groups} {k k' : Nested} → LevelLaw n g g' k k' → (x : SqlCond)
+cond_from_law : {n : ℕ} {g g' : Parentheses} {k k' : Nested} → LevelLaw n g g' k k' → (x : SqlCond)
     → Lawful n (cond_rest g x) (cond_rest g' x) (cond_from k x) (cond_from k' x) ends_cond
 unfolding cond_from same_keyword
 cond_from_law level x = made_law (any_of x) (narrower_law (many_law (begun_law (is_key KwOr) refl refl (λ u. term_law level)) (λ l. term_ends_or (Some l)))
     (λ o h. both_hold (ends_term o) _ (term_ends o h) (ap is_some (no_key KwOr ends_cond refl o h))))
 
-cond_follows : (g : Groups) (x y : SqlCond) (v rest : List Lexeme) → cond_rest g x v y → ends_cond (next rest) ≡ true → ends_term (next (v ++ rest)) ≡ true
+cond_follows : (g : Parentheses) (x y : SqlCond) (v rest : List Lexeme) → cond_rest g x v y → ends_cond (next rest) ≡ true → ends_term (next (v ++ rest)) ≡ true
 cond_follows g x y v rest t h = many_made_follows ends_term term_ends_or v y rest t (term_ends (next rest) h)
 
-pub cond_law : {n : ℕ} {g g' : Groups} {k k' : Nested} → LevelLaw n g g' k k' → Lawful n (rule.cond g) (rule.cond g') (cond k) (cond k') ends_cond
+pub cond_law : {n : ℕ} {g g' : Parentheses} {k k' : Nested} → LevelLaw n g g' k k' → Lawful n (rule.cond g) (rule.cond g') (cond k) (cond k') ends_cond
 unfolding cond rule.cond
 cond_law {g = g} level = then_law (term_law level) (cond_from_law level) (cond_follows g)
 
 -- ---- a condition that begins with a primary condition
 
-abbrev pub cond_tail : Groups → SqlCond → Rule SqlCond
+abbrev pub cond_tail : Parentheses → SqlCond → Rule SqlCond
 cond_tail g x = test_rest x >>= term_rest g >>= cond_rest g
 
-condition_from_law : {n : ℕ} {g g' : Groups} {k k' : Nested} → LevelLaw n g g' k k' → (x : SqlCond)
+condition_from_law : {n : ℕ} {g g' : Parentheses} {k k' : Nested} → LevelLaw n g g' k k' → (x : SqlCond)
     → Lawful n (cond_tail g x) (cond_tail g' x) (condition_from k x) (condition_from k' x) ends_cond
 unfolding condition_from
 condition_from_law {g = g} level x = then_law (then_law (test_from_law x) (term_from_law level) (term_follows g)) (cond_from_law level) (cond_follows g)
@@ -155,11 +155,11 @@ abbrev pub closes : Option Lexeme → Bool
 closes (Some (Sign ParenClose)) = true
 closes o = false
 
-abbrev pub operand_content : Groups → Rule Operand
+abbrev pub operand_content : Parentheses → Rule Operand
 operand_content g = (operand_is.Cond <$> rule.cond g) or (operand_is.Expr <$> expr_rule g)
 
 -- after what begins a condition or an expression
-abbrev pub operand_rest : Groups → Operand → Rule Operand
+abbrev pub operand_rest : Parentheses → Operand → Rule Operand
 operand_rest g (operand_is.Cond x) = operand_is.Cond <$> cond_tail g x
 operand_rest g (operand_is.Expr x) = (operand_is.Cond <$> (predicate_rest g x >>= cond_tail g)) or pure (operand_is.Expr x)
 
@@ -174,17 +174,17 @@ closes_stays o h = false_not_true h
 empty_stays : {A : Type 0} {a b : A} (w rest : List Lexeme) → Empty a w b → closes (next rest) ≡ true → goes (next (w ++ rest)) ≡ false
 empty_stays w rest empty h = closes_stays (next rest) h
 
-cond_tail_follows : (g : Groups) (x y : SqlCond) (v rest : List Lexeme) → cond_tail g x v y → ends_expr (next rest) ≡ true → ends_expr (next (v ++ rest)) ≡ true
+cond_tail_follows : (g : Parentheses) (x y : SqlCond) (v rest : List Lexeme) → cond_tail g x v y → ends_expr (next rest) ≡ true → ends_expr (next (v ++ rest)) ≡ true
 cond_tail_follows g x y v rest t h = then_follows ends_expr
     (then_follows ends_expr (λ u a rest. test_rest_follows x a u rest) (λ a. many_made_follows ends_expr (λ o. key_seen KwAnd ends_expr refl o)))
     (λ a. many_made_follows ends_expr (λ o. key_seen KwOr ends_expr refl o)) v y rest t h
 
-predicate_condition_law : {n : ℕ} {g g' : Groups} {k k' : Nested} → LevelLaw n g g' k k' → (x : SqlExpr)
+predicate_condition_law : {n : ℕ} {g g' : Parentheses} {k k' : Nested} → LevelLaw n g g' k k' → (x : SqlExpr)
     → Lawful n (predicate_rest g x >>= cond_tail g) (predicate_rest g' x >>= cond_tail g')
     (λ ts. and_then (predicate_from k x ts) (condition_from k)) (λ ts. and_then (predicate_from k' x ts) (condition_from k')) ends_cond
 predicate_condition_law {g = g} level x = then_law (predicate_from_law level x) (condition_from_law level) (λ a b v rest t h. cond_tail_follows g a b v rest t (expr_ends (next rest) h))
 
-operand_from_law : {n : ℕ} {g g' : Groups} {k k' : Nested} → LevelLaw n g g' k k' → (o : Operand)
+operand_from_law : {n : ℕ} {g g' : Parentheses} {k k' : Nested} → LevelLaw n g g' k k' → (o : Operand)
     → Lawful n (operand_rest g o) (operand_rest g' o) (operand_from k o) (operand_from k' o) closes
 unfolding goes_on
 operand_from_law level (operand_is.Cond x) = made_law operand_is.Cond (narrower_law (condition_from_law level x) closes_cond)
@@ -193,19 +193,19 @@ operand_from_law {g = g} {k = k} {k' = k'} level (operand_is.Expr x) = by_test_l
     (λ w y rest t h. then_begins goes (then_begins goes (predicate_first g x)) w y rest t)
     (λ w y rest t h. empty_stays w rest t h)
 
-operand_follows : (g : Groups) (o y : Operand) (v rest : List Lexeme) → operand_rest g o v y → closes (next rest) ≡ true → ends_expr (next (v ++ rest)) ≡ true
+operand_follows : (g : Parentheses) (o y : Operand) (v rest : List Lexeme) → operand_rest g o v y → closes (next rest) ≡ true → ends_expr (next (v ++ rest)) ≡ true
 operand_follows g (operand_is.Cond x) y v rest t h = then_follows ends_expr (λ u a rest. cond_tail_follows g x a u rest) (λ a v b rest. empty_follows ends_expr v rest) v y rest t
     (expr_ends (next rest) (closes_cond (next rest) h))
 operand_follows g (operand_is.Expr x) y v rest (first t) h = goes_ends (next (v ++ rest)) (then_begins goes (then_begins goes (predicate_first g x)) v y rest t)
 operand_follows g (operand_is.Expr x) y v rest (second t) h = empty_follows ends_expr v rest t (expr_ends (next rest) (closes_cond (next rest) h))
 
-begun_operand_law : {n : ℕ} {g g' : Groups} {k k' : Nested} → LevelLaw n g g' k k'
+begun_operand_law : {n : ℕ} {g g' : Parentheses} {k k' : Nested} → LevelLaw n g g' k k'
     → Lawful n (started_rule g >>= operand_rest g) (started_rule g' >>= operand_rest g') (λ ts. and_then (started k ts) (operand_from k)) (λ ts. and_then (started k' ts) (operand_from k')) closes
 begun_operand_law {g = g} level = then_law (started_law level) (operand_from_law level) (operand_follows g)
 
 -- ---- a condition by what begins it
 
-test_of_factor : (g : Groups) (w : List Lexeme) (y : SqlCond) (rest : List Lexeme) → meaning_of (is_key KwNot) (next (w ++ rest)) ≡ None → rule.factor g w y → rule.test g w y
+test_of_factor : (g : Parentheses) (w : List Lexeme) (y : SqlCond) (rest : List Lexeme) → meaning_of (is_key KwNot) (next (w ++ rest)) ≡ None → rule.factor g w y → rule.test g w y
 unfolding rule.factor
 test_of_factor g w y rest h t = go (negation_parts w y t)
   where
@@ -213,12 +213,12 @@ test_of_factor g w y rest h t = go (negation_parts w y t)
     go (first t) = some_not_none (is_key KwNot) (next (w ++ rest)) h (one_first w y rest t)
     go (second t) = then_empty w y t
 
-factor_of_test : (g : Groups) (w : List Lexeme) (y : SqlCond) → rule.test g w y → rule.factor g w y
+factor_of_test : (g : Parentheses) (w : List Lexeme) (y : SqlCond) → rule.test g w y → rule.factor g w y
 unfolding rule.factor
 factor_of_test g w y t = negation_back w y (second (made (negated_by false) w y t))
 
 -- without a NOT before it, a condition begins with a primary condition
-cond_parts : (g : Groups) (w : List Lexeme) (y : SqlCond) (rest : List Lexeme) → meaning_of (is_key KwNot) (next (w ++ rest)) ≡ None → rule.cond g w y → Then (rule.primary_condition g) (cond_tail g) w y
+cond_parts : (g : Parentheses) (w : List Lexeme) (y : SqlCond) (rest : List Lexeme) → meaning_of (is_key KwNot) (next (w ++ rest)) ≡ None → rule.cond g w y → Then (rule.primary_condition g) (cond_tail g) w y
 unfolding rule.cond rule.term rule.test
 cond_parts g w y rest h t = then_map (λ w a t. t) (λ x w y t. then_assoc_back w y t) w y (then_assoc w y (go w h (then_assoc w y t)))
   where
@@ -226,13 +226,13 @@ cond_parts g w y rest h t = then_map (λ w a t. t) (λ x w y t. then_assoc_back 
         → Then (rule.test g) (λ a. Then (term_rest g a) (cond_rest g)) w y
     go w h (both {a = x} u v t s) = both u v (test_of_factor g u x (v ++ rest) (ap (meaning_of (is_key KwNot)) (sym (next_append u v rest)) ∙ h) t) s
 
-cond_made : (g : Groups) (w : List Lexeme) (y : SqlCond) → Then (rule.primary_condition g) (cond_tail g) w y → rule.cond g w y
+cond_made : (g : Parentheses) (w : List Lexeme) (y : SqlCond) → Then (rule.primary_condition g) (cond_tail g) w y → rule.cond g w y
 unfolding rule.cond rule.term rule.test
 cond_made g w y t = then_assoc_back w y (then_map (factor_of_test g) (λ a w y t. t) w y (then_assoc_back w y (then_map (λ w a t. t) (λ x w y t. then_assoc w y t) w y t)))
 
 -- ---- a condition or an expression by what begins it
 
-rest_of_completed : (g : Groups) (o : Operand) (w : List Lexeme) (y : Operand) → Then (Then (completed_rule g o) (cond_tail g)) (λ y. Empty (operand_is.Cond y)) w y → operand_rest g o w y
+rest_of_completed : (g : Parentheses) (o : Operand) (w : List Lexeme) (y : Operand) → Then (Then (completed_rule g o) (cond_tail g)) (λ y. Empty (operand_is.Cond y)) w y → operand_rest g o w y
 rest_of_completed g (operand_is.Cond x) w y t = then_map (λ w y t. empty_then x w y t) (λ a w y t. t) w y t
 rest_of_completed g (operand_is.Expr x) w y t = first t
 
@@ -241,7 +241,7 @@ abbrev whole_expr : Operand → Rule Operand
 whole_expr (operand_is.Cond x) = λ w y. ⊥
 whole_expr (operand_is.Expr x) = Empty (operand_is.Expr x)
 
-completed_of_rest : (g : Groups) (o : Operand) (w : List Lexeme) (y : Operand) → operand_rest g o w y
+completed_of_rest : (g : Parentheses) (o : Operand) (w : List Lexeme) (y : Operand) → operand_rest g o w y
     → Either (Then (Then (completed_rule g o) (cond_tail g)) (λ y. Empty (operand_is.Cond y))) (whole_expr o) w y
 completed_of_rest g (operand_is.Cond x) w y t = first (then_map (λ w y t. empty_then_back x w y t) (λ a w y t. t) w y t)
 completed_of_rest g (operand_is.Expr x) w y t = t
@@ -249,7 +249,7 @@ completed_of_rest g (operand_is.Expr x) w y t = t
 no_then : {A B : Type 0} {R : Rule A} {S : A → Rule B} (w : List Lexeme) (b : B) → ((a : A) (v : List Lexeme) → S a v b → ⊥) → Then R S w b → ⊥
 no_then w b no_text (both {a = a} u v r s) = no_text a v s
 
-operand_into : (g : Groups) (w : List Lexeme) (y : Operand) (rest : List Lexeme) → meaning_of (is_key KwNot) (next (w ++ rest)) ≡ None → operand_content g w y
+operand_into : (g : Parentheses) (w : List Lexeme) (y : Operand) (rest : List Lexeme) → meaning_of (is_key KwNot) (next (w ++ rest)) ≡ None → operand_content g w y
     → (started_rule g >>= operand_rest g) w y
 operand_into g w y rest h (first t) = then_map (λ w a t. t) (rest_of_completed g) w y
     (then_assoc w y (then_map (λ w y t. then_assoc w y (then_map (condition_begun g) (λ a w y t. t) w y t)) (λ a w y t. t) w y (go w h t)))
@@ -259,7 +259,7 @@ operand_into g w y rest h (first t) = then_map (λ w a t. t) (rest_of_completed 
     go w h (both {a = x} u v t s) = both u v (cond_parts g u x (v ++ rest) (ap (meaning_of (is_key KwNot)) (sym (next_append u v rest)) ∙ h) t) s
 operand_into g w y rest h (second t) = either_then_back w y (first (then_assoc_back w y (then_map (λ w a t. t) (λ x w y t. empty_then_back (operand_is.Expr x) w y (second t)) w y t)))
 
-operand_back : (g : Groups) (w : List Lexeme) (y : Operand) → (started_rule g >>= operand_rest g) w y → operand_content g w y
+operand_back : (g : Parentheses) (w : List Lexeme) (y : Operand) → (started_rule g >>= operand_rest g) w y → operand_content g w y
 operand_back g w y t = go (then_either w y (then_map (λ w a t. t) (completed_of_rest g) w y t))
   where
     no_exists : Then (key KwExists >> (λ q. operand_is.Cond (c.Exists q)) <$> Enclosed g.query) whole_expr w y → ⊥
@@ -283,7 +283,7 @@ operand_back g w y t = go (then_either w y (then_map (λ w a t. t) (completed_of
     go (first t) = first (then_map (λ w x t. cond_made g w x (then_map (begun_condition g) (λ a w y t. t) w x (then_assoc_back w x t))) (λ a w y t. t) w y (then_assoc_back w y t))
     go (second t) = left (either_then w y t)
 
-operand_at : {n : ℕ} {g g' : Groups} {k k' : Nested} → LevelLaw n g g' k k' → (o : Option Lexeme) (m : Option (Unit {0})) → meaning_of (is_key KwNot) o ≡ m
+operand_at : {n : ℕ} {g g' : Parentheses} {k k' : Nested} → LevelLaw n g g' k k' → (o : Option Lexeme) (m : Option (Unit {0})) → meaning_of (is_key KwNot) o ≡ m
     → LawfulAt o n (operand_content g) (operand_content g')
     (operand_by k (is_some (meaning_of (is_key KwNot) o))) (operand_by k' (is_some (meaning_of (is_key KwNot) o))) closes
 operand_at {g = g} {g' = g'} {k = k} {k' = k'} level o None e = at_by_law o (begun_operand_law level) (operand_back g) (operand_back g')
@@ -297,7 +297,7 @@ operand_at {g = g} {g' = g'} {k = k} {k' = k'} level o (Some u) e =
     into w y rest at (first t) h = t
     into w y rest at (second t) h = none_not_some u (sym (no_key KwNot starts_expr refl o (ap starts_expr (sym at) ∙ made_first g w y rest t)) ∙ e)
 
-pub operand_content_law : {n : ℕ} {g g' : Groups} {k k' : Nested} → LevelLaw n g g' k k'
+pub operand_content_law : {n : ℕ} {g g' : Parentheses} {k k' : Nested} → LevelLaw n g g' k k'
     → Lawful n (operand_content g) (operand_content g') (operand k) (operand k') closes
 unfolding operand
 operand_content_law {n} {g} {g'} {k} {k'} level = next_law

@@ -6,7 +6,7 @@ use Rattle.pdw_lex.specs.declared.token.Lexeme.{Lexeme}
 use Rattle.pdw_lex.specs.declared.token.Lexeme.TheVariants as lexeme
 use Rattle.pdw_syntax.specs.Rule.{Empty, One, Then, both, Either, first, second}
 use Rattle.pdw_syntax.specs.Lexemes.{is_sign, name_of, minus_of, aggregate_of, term_operator_of, factor_operator_of, name}
-use Rattle.pdw_syntax.specs.Groups.{Groups}
+use Rattle.pdw_syntax.specs.Parentheses.{Parentheses}
 use Rattle.pdw_syntax.specs.Exprs as rule
 use Rattle.pdw_syntax.specs.declared.expr.ColRef.{ColRef}
 use Rattle.pdw_syntax.specs.declared.expr.SqlExpr.{SqlExpr}
@@ -89,7 +89,7 @@ pub record HoldsAtValue (s : Option Lexeme → Bool) : Type 0 where
 
 -- ---- what an expression begins with
 
-module _ (g : Groups) {s : Option Lexeme → Bool} where
+module _ (g : Parentheses) {s : Option Lexeme → Bool} where
   leads_aggregate : {t : Option Lexeme → Bool} → s (Some (lexeme.Key KwCount)) ≡ true → s (Some (lexeme.Key KwSum)) ≡ true → s (Some (lexeme.Key KwMin)) ≡ true
       → s (Some (lexeme.Key KwMax)) ≡ true → Leads (rule.aggregate g) t s
   unfolding rule.aggregate
@@ -124,7 +124,7 @@ module _ (g : Groups) {s : Option Lexeme → Bool} where
 
 -- ---- expressions that begin with a name
 
-module _ (g : Groups) where
+module _ (g : Parentheses) where
   value_by_name : (w : List Lexeme) (x : SqlExpr) (rest : List Lexeme) → rule.value g w x → seen name_of (next (w ++ rest)) ≡ true
       → Then rule.column_reference (λ c. Empty (Col c)) w x
   unfolding rule.value

@@ -9,7 +9,7 @@ use Rattle.pdw_lex.specs.declared.token.Lexeme.{Lexeme}
 use Rattle.pdw_lex.specs.declared.token.Lexeme.TheVariants.{Key, Name, Number, Sign, Text}
 use Rattle.pdw_syntax.specs.Rule.{Rule, ◌>>=◌, ◌>>◌, ◌<$>◌, ◌or◌, pure, Empty, One, one, Then, both, Either, first, second, Many, Enclosed, enclosed}
 use Rattle.pdw_syntax.specs.Lexemes.{is_key, is_sign, same_keyword, same_sign, sign, key, name, number, text, name_of, number_of, text_of, minus_of, aggregate_of, term_operator_of, factor_operator_of}
-use Rattle.pdw_syntax.specs.Groups.{Groups}
+use Rattle.pdw_syntax.specs.Parentheses.{Parentheses}
 use Rattle.pdw_syntax.specs.Exprs as rule
 use Rattle.pdw_syntax.specs.Exprs.{chained, operation, with_sign}
 use Rattle.pdw_syntax.specs.declared.expr.ColRef.{ColRef}
@@ -29,19 +29,19 @@ use Rattle.pdw_reading.proofs.Stops.{ends_expr}
 -- ---- what follows an operand that is read already
 
 -- { ( *, / or % ) signed }
-abbrev pub product_rest : Groups → SqlExpr → Rule SqlExpr
+abbrev pub product_rest : Parentheses → SqlExpr → Rule SqlExpr
 product_rest g x = chained x <$> Many (operation factor_operator_of (rule.signed g))
 
 -- { ( + or - ) product }
-abbrev pub sum_rest : Groups → SqlExpr → Rule SqlExpr
+abbrev pub sum_rest : Parentheses → SqlExpr → Rule SqlExpr
 sum_rest g x = chained x <$> Many (operation term_operator_of (rule.product g))
 
 -- what follows the first value of an expression that no sign stands before
-abbrev pub expr_rest : Groups → SqlExpr → Rule SqlExpr
+abbrev pub expr_rest : Parentheses → SqlExpr → Rule SqlExpr
 expr_rest g x = product_rest g x >>= sum_rest g
 
 -- what a COUNT counts
-abbrev pub counted_in : Groups → Rule (Option SqlExpr)
+abbrev pub counted_in : Parentheses → Rule (Option SqlExpr)
 counted_in g = (sign Star >> pure None) or (Some <$> rule.expr g)
 
 -- no dot
@@ -109,7 +109,7 @@ listed_law {ends = ends} {stops = stops} item at_comma narrower no_comma = then_
 -- ---- aggregates
 
 -- after the word of the aggregate
-abbrev pub aggregate_rest : Groups → AggKind → Rule SqlExpr
+abbrev pub aggregate_rest : Parentheses → AggKind → Rule SqlExpr
 aggregate_rest g Count = count_of <$> counted_around g
 aggregate_rest g kind = (λ x. e.Agg kind (Some x)) <$> Enclosed g.expr
 
@@ -131,31 +131,31 @@ count_lexeme w u (one l h) = one l (count_is l u h)
 lexeme_count : (w : List Lexeme) → One aggregate_of w Count → key KwCount w tt
 lexeme_count w (one l h) = one l (is_count l h)
 
-star_into : (g : Groups) (w : List Lexeme) (x : SqlExpr) → Then (Enclosed g.star) (λ u. Empty (e.Agg CountStar None)) w x → (count_of <$> counted_around g) w x
+star_into : (g : Parentheses) (w : List Lexeme) (x : SqlExpr) → Then (Enclosed g.star) (λ u. Empty (e.Agg CountStar None)) w x → (count_of <$> counted_around g) w x
 star_into g w x t = either_then_back w x (first (then_assoc_back w x (then_map (λ w a t. t) (λ u w x t. empty_then_back None w x t) w x t)))
 
-counted_into : (g : Groups) (w : List Lexeme) (x : SqlExpr) → Then (Enclosed g.expr) (λ x. Empty (e.Agg Count (Some x))) w x → (count_of <$> counted_around g) w x
+counted_into : (g : Parentheses) (w : List Lexeme) (x : SqlExpr) → Then (Enclosed g.expr) (λ x. Empty (e.Agg Count (Some x))) w x → (count_of <$> counted_around g) w x
 counted_into g w x t = either_then_back w x (second (then_assoc_back w x (then_map (λ w a t. t) (λ y w x t. empty_then_back (Some y) w x t) w x t)))
 
-counted_back : (g : Groups) (w : List Lexeme) (x : SqlExpr) → (count_of <$> counted_around g) w x
+counted_back : (g : Parentheses) (w : List Lexeme) (x : SqlExpr) → (count_of <$> counted_around g) w x
     → Either (Then (Enclosed g.star) (λ u. Empty (e.Agg CountStar None))) (Then (Enclosed g.expr) (λ x. Empty (e.Agg Count (Some x)))) w x
 counted_back g w x t = either_map
     (λ w x t. then_map (λ w a t. t) (λ u w x t. empty_then None w x t) w x (then_assoc w x t))
     (λ w x t. then_map (λ w a t. t) (λ y w x t. empty_then (Some y) w x t) w x (then_assoc w x t)) w x (either_then w x t)
 
-count_group : (g : Groups) (w : List Lexeme) (x : SqlExpr) → Then (key KwCount) (λ u. Then (Enclosed g.star) (λ u. Empty (e.Agg CountStar None))) w x → Then (One aggregate_of) (aggregate_rest g) w x
-count_group g w x (both {a = a} u v t s) = both {a = Count} u v (count_lexeme u a t) (star_into g v x s)
+count_parentheses : (g : Parentheses) (w : List Lexeme) (x : SqlExpr) → Then (key KwCount) (λ u. Then (Enclosed g.star) (λ u. Empty (e.Agg CountStar None))) w x → Then (One aggregate_of) (aggregate_rest g) w x
+count_parentheses g w x (both {a = a} u v t s) = both {a = Count} u v (count_lexeme u a t) (star_into g v x s)
 
-kind_group : (g : Groups) (kind : AggKind) (w : List Lexeme) (x : SqlExpr) → Then (Enclosed g.expr) (λ x. Empty (e.Agg kind (Some x))) w x → aggregate_rest g kind w x
-kind_group g Count w x t = counted_into g w x t
-kind_group g kind w x t = t
+kind_parentheses : (g : Parentheses) (kind : AggKind) (w : List Lexeme) (x : SqlExpr) → Then (Enclosed g.expr) (λ x. Empty (e.Agg kind (Some x))) w x → aggregate_rest g kind w x
+kind_parentheses g Count w x t = counted_into g w x t
+kind_parentheses g kind w x t = t
 
-aggregate_into : (g : Groups) (w : List Lexeme) (x : SqlExpr) → rule.aggregate g w x → Then (One aggregate_of) (aggregate_rest g) w x
+aggregate_into : (g : Parentheses) (w : List Lexeme) (x : SqlExpr) → rule.aggregate g w x → Then (One aggregate_of) (aggregate_rest g) w x
 unfolding rule.aggregate
-aggregate_into g w x (first t) = count_group g w x (then_assoc w x t)
-aggregate_into g w x (second t) = then_map (λ w a t. t) (kind_group g) w x t
+aggregate_into g w x (first t) = count_parentheses g w x (then_assoc w x t)
+aggregate_into g w x (second t) = then_map (λ w a t. t) (kind_parentheses g) w x t
 
-aggregate_made : (g : Groups) (kind : AggKind) (u v : List Lexeme) (x : SqlExpr) → One aggregate_of u kind → aggregate_rest g kind v x → rule.aggregate g (u ++ v) x
+aggregate_made : (g : Parentheses) (kind : AggKind) (u v : List Lexeme) (x : SqlExpr) → One aggregate_of u kind → aggregate_rest g kind v x → rule.aggregate g (u ++ v) x
 unfolding rule.aggregate
 aggregate_made g Count u v x t s = go (counted_back g v x s)
   where
@@ -164,15 +164,15 @@ aggregate_made g Count u v x t s = go (counted_back g v x s)
     go (second s) = second (both u v t s)
 aggregate_made g kind u v x t s = second (both u v t s)
 
-aggregate_back : (g : Groups) (w : List Lexeme) (x : SqlExpr) → Then (One aggregate_of) (aggregate_rest g) w x → rule.aggregate g w x
+aggregate_back : (g : Parentheses) (w : List Lexeme) (x : SqlExpr) → Then (One aggregate_of) (aggregate_rest g) w x → rule.aggregate g w x
 aggregate_back g w x (both {a = kind} u v t s) = aggregate_made g kind u v x t s
 
-aggregate_rest_law : {n : ℕ} {g g' : Groups} {k k' : Nested} → LevelLaw n g g' k k' → (kind : AggKind)
+aggregate_rest_law : {n : ℕ} {g g' : Parentheses} {k k' : Nested} → LevelLaw n g g' k k' → (kind : AggKind)
     → Lawful n (aggregate_rest g kind) (aggregate_rest g' kind) (aggregate_by k kind) (aggregate_by k' kind) always
 aggregate_rest_law level Count = made_law count_of level.counts
 aggregate_rest_law level kind = made_law (λ x. e.Agg kind (Some x)) level.expr
 
-aggregate_law : {n : ℕ} {g g' : Groups} {k k' : Nested} → LevelLaw n g g' k k' → Lawful n (rule.aggregate g) (rule.aggregate g') (aggregate k) (aggregate k') always
+aggregate_law : {n : ℕ} {g g' : Parentheses} {k k' : Nested} → LevelLaw n g g' k k' → Lawful n (rule.aggregate g) (rule.aggregate g') (aggregate k) (aggregate k') always
 unfolding aggregate
 aggregate_law {g = g} {g' = g'} level = same_law (aggregate_into g) (aggregate_back g) (aggregate_back g')
     (then_always (one_law aggregate_of (Key KwCount) Count refl refl refl) (aggregate_rest_law level))
@@ -180,7 +180,7 @@ aggregate_law {g = g} {g' = g'} level = same_law (aggregate_into g) (aggregate_b
 -- ---- values
 
 -- the values that this lexeme begins
-abbrev pub value_at : Groups → Option Lexeme → Rule SqlExpr
+abbrev pub value_at : Parentheses → Option Lexeme → Rule SqlExpr
 value_at g (Some (Number n)) = e.Number <$> number
 value_at g (Some (Text t)) = e.Text <$> text
 value_at g (Some (Name n)) = e.Col <$> rule.column_reference
@@ -196,44 +196,44 @@ starts_value (Some (Key k)) = is_some (aggregate_of (Key k))
 starts_value (Some (Sign ParenOpen)) = true
 starts_value o = false
 
-number_at : (g : Groups) (o : Option Lexeme) (w : List Lexeme) (x : SqlExpr) → is_some (meaning_of number_of o) ≡ true → (e.Number <$> number) w x → value_at g o w x
+number_at : (g : Parentheses) (o : Option Lexeme) (w : List Lexeme) (x : SqlExpr) → is_some (meaning_of number_of o) ≡ true → (e.Number <$> number) w x → value_at g o w x
 number_at g (Some (Number n)) w x h t = t
 number_at g o w x h t = false_not_true h
 
-text_at : (g : Groups) (o : Option Lexeme) (w : List Lexeme) (x : SqlExpr) → is_some (meaning_of text_of o) ≡ true → (e.Text <$> text) w x → value_at g o w x
+text_at : (g : Parentheses) (o : Option Lexeme) (w : List Lexeme) (x : SqlExpr) → is_some (meaning_of text_of o) ≡ true → (e.Text <$> text) w x → value_at g o w x
 text_at g (Some (Text n)) w x h t = t
 text_at g o w x h t = false_not_true h
 
-column_at : (g : Groups) (o : Option Lexeme) (w : List Lexeme) (x : SqlExpr) → is_some (meaning_of name_of o) ≡ true → (e.Col <$> rule.column_reference) w x → value_at g o w x
+column_at : (g : Parentheses) (o : Option Lexeme) (w : List Lexeme) (x : SqlExpr) → is_some (meaning_of name_of o) ≡ true → (e.Col <$> rule.column_reference) w x → value_at g o w x
 column_at g (Some (Name n)) w x h t = t
 column_at g o w x h t = false_not_true h
 
-aggregate_at : (g : Groups) (o : Option Lexeme) (w : List Lexeme) (x : SqlExpr) → is_some (meaning_of aggregate_of o) ≡ true → rule.aggregate g w x → value_at g o w x
+aggregate_at : (g : Parentheses) (o : Option Lexeme) (w : List Lexeme) (x : SqlExpr) → is_some (meaning_of aggregate_of o) ≡ true → rule.aggregate g w x → value_at g o w x
 aggregate_at g (Some (Key k)) w x h t = t
 aggregate_at g o w x h t = false_not_true h
 
-pub group_first : {A : Type 0} {R : List Lexeme → A → Type 0} (w : List Lexeme) (a : A) (rest : List Lexeme) → Enclosed R w a → next (w ++ rest) ≡ Some (Sign ParenOpen)
-group_first w a rest (enclosed inner r) = refl
+pub parentheses_first : {A : Type 0} {R : List Lexeme → A → Type 0} (w : List Lexeme) (a : A) (rest : List Lexeme) → Enclosed R w a → next (w ++ rest) ≡ Some (Sign ParenOpen)
+parentheses_first w a rest (enclosed inner r) = refl
 
-aggregate_first : (g : Groups) (w : List Lexeme) (x : SqlExpr) (rest : List Lexeme) → rule.aggregate g w x → is_some (meaning_of aggregate_of (next (w ++ rest))) ≡ true
+aggregate_first : (g : Parentheses) (w : List Lexeme) (x : SqlExpr) (rest : List Lexeme) → rule.aggregate g w x → is_some (meaning_of aggregate_of (next (w ++ rest))) ≡ true
 aggregate_first g w x rest t = one_first w x rest (aggregate_into g w x t)
 
-pub then_group_first : {A B : Type 0} {R : List Lexeme → A → Type 0} {S : A → List Lexeme → B → Type 0} (w : List Lexeme) (b : B) (rest : List Lexeme)
+pub then_parentheses_first : {A B : Type 0} {R : List Lexeme → A → Type 0} {S : A → List Lexeme → B → Type 0} (w : List Lexeme) (b : B) (rest : List Lexeme)
     → Then (Enclosed R) S w b → next (w ++ rest) ≡ Some (Sign ParenOpen)
-then_group_first w b rest (both {a = a} u v t s) = next_append u v rest ∙ group_first u a (v ++ rest) t
+then_parentheses_first w b rest (both {a = a} u v t s) = next_append u v rest ∙ parentheses_first u a (v ++ rest) t
 
 column_first : (w : List Lexeme) (x : SqlExpr) (rest : List Lexeme) → (e.Col <$> rule.column_reference) w x → is_some (meaning_of name_of (next (w ++ rest))) ≡ true
 column_first w x rest (both {a = c} u v t s) = ap (λ o. is_some (meaning_of name_of o)) (next_append u v rest) ∙ one_first u c (v ++ rest) (column_into u c t)
 
-pub value_into : (g : Groups) (w : List Lexeme) (x : SqlExpr) (rest : List Lexeme) → rule.value g w x → value_at g (next (w ++ rest)) w x
+pub value_into : (g : Parentheses) (w : List Lexeme) (x : SqlExpr) (rest : List Lexeme) → rule.value g w x → value_at g (next (w ++ rest)) w x
 unfolding rule.value
 value_into g w x rest (first t) = number_at g (next (w ++ rest)) w x (one_first w x rest t) t
 value_into g w x rest (second (first t)) = text_at g (next (w ++ rest)) w x (one_first w x rest t) t
 value_into g w x rest (second (second (first t))) = column_at g (next (w ++ rest)) w x (column_first w x rest t) t
 value_into g w x rest (second (second (second (first t)))) = aggregate_at g (next (w ++ rest)) w x (aggregate_first g w x rest t) t
-value_into g w x rest (second (second (second (second t)))) = let P : Option Lexeme → Type 0 = λ o. value_at g o w x in subst P (sym (then_group_first w x rest t)) t
+value_into g w x rest (second (second (second (second t)))) = let P : Option Lexeme → Type 0 = λ o. value_at g o w x in subst P (sym (then_parentheses_first w x rest t)) t
 
-pub value_back : (g : Groups) (o : Option Lexeme) (w : List Lexeme) (x : SqlExpr) → value_at g o w x → rule.value g w x
+pub value_back : (g : Parentheses) (o : Option Lexeme) (w : List Lexeme) (x : SqlExpr) → value_at g o w x → rule.value g w x
 unfolding rule.value
 value_back g (Some (Number n)) w x t = first t
 value_back g (Some (Text n)) w x t = second (first t)
@@ -242,7 +242,7 @@ value_back g (Some (Key k)) w x t = second (second (second (first t)))
 value_back g (Some (Sign s)) w x t = second (second (second (second t)))
 value_back g None w x t = second (second (second (second t)))
 
-value_here : (g : Groups) (o : Option Lexeme) (w : List Lexeme) (x : SqlExpr) (rest : List Lexeme) → next (w ++ rest) ≡ o → rule.value g w x → value_at g o w x
+value_here : (g : Parentheses) (o : Option Lexeme) (w : List Lexeme) (x : SqlExpr) (rest : List Lexeme) → next (w ++ rest) ≡ o → rule.value g w x → value_at g o w x
 value_here g o w x rest at t = let P : Option Lexeme → Type 0 = λ o. value_at g o w x in subst P at (value_into g w x rest t)
 
 -- how the values that this lexeme begins are read by their own rules
@@ -262,7 +262,7 @@ value_read k (Some (Key j)) ts at = refl
 value_read k (Some (Sign s)) ts at = refl
 value_read k None ts at = refl
 
-value_reader_law : {n : ℕ} {g g' : Groups} {k k' : Nested} → LevelLaw n g g' k k' → (o : Option Lexeme)
+value_reader_law : {n : ℕ} {g g' : Parentheses} {k k' : Nested} → LevelLaw n g g' k k' → (o : Option Lexeme)
     → Lawful n (value_at g o) (value_at g' o) (value_reader k o) (value_reader k' o) ends_column
 value_reader_law level (Some (Number n)) = narrower_law (made_law e.Number (one_law number_of (Number n) n refl refl refl)) (λ o h. refl)
 value_reader_law level (Some (Text t)) = narrower_law (made_law e.Text (one_law text_of (Text t) t refl refl refl)) (λ o h. refl)
@@ -271,7 +271,7 @@ value_reader_law level (Some (Key j)) = narrower_law (aggregate_law level) (λ o
 value_reader_law level (Some (Sign s)) = narrower_law (made_law e.Paren level.expr) (λ o h. refl)
 value_reader_law level None = narrower_law (made_law e.Paren level.expr) (λ o h. refl)
 
-value_law : {n : ℕ} {g g' : Groups} {k k' : Nested} → LevelLaw n g g' k k' → Lawful n (rule.value g) (rule.value g') (value k) (value k') ends_column
+value_law : {n : ℕ} {g g' : Parentheses} {k k' : Nested} → LevelLaw n g g' k k' → Lawful n (rule.value g) (rule.value g') (value k) (value k') ends_column
 unfolding value
 value_law {n} {g} {g'} {k} {k'} level = next_law {f = value_by k} {g = value_by k'}
     (λ o. at_by_law o (value_reader_law level o) (value_back g o) (value_back g' o) (λ w x rest at t h. value_here g o w x rest at t) (value_read k o) (value_read k' o))
@@ -297,13 +297,13 @@ aggregate_starts : (o : Option Lexeme) → is_some (meaning_of aggregate_of o) �
 aggregate_starts (Some (Key k)) h = h
 aggregate_starts o h = false_not_true h
 
-value_first : (g : Groups) (w : List Lexeme) (x : SqlExpr) (rest : List Lexeme) → rule.value g w x → starts_value (next (w ++ rest)) ≡ true
+value_first : (g : Parentheses) (w : List Lexeme) (x : SqlExpr) (rest : List Lexeme) → rule.value g w x → starts_value (next (w ++ rest)) ≡ true
 unfolding rule.value
 value_first g w x rest (first t) = number_starts _ (one_first w x rest t)
 value_first g w x rest (second (first t)) = text_starts _ (one_first w x rest t)
 value_first g w x rest (second (second (first t))) = name_starts _ (column_first w x rest t)
 value_first g w x rest (second (second (second (first t)))) = aggregate_starts _ (aggregate_first g w x rest t)
-value_first g w x rest (second (second (second (second t)))) = ap starts_value (then_group_first w x rest t)
+value_first g w x rest (second (second (second (second t)))) = ap starts_value (then_parentheses_first w x rest t)
 
 no_sign_begins : (o : Option Lexeme) → starts_value o ≡ true → meaning_of minus_of o ≡ None
 no_sign_begins (Some (Sign Plus)) h = false_not_true h
@@ -311,12 +311,12 @@ no_sign_begins (Some (Sign Minus)) h = false_not_true h
 no_sign_begins (Some (Sign s)) h = refl
 no_sign_begins o h = refl
 
-no_second_sign : (g : Groups) (minus : Option Bool) (x : SqlExpr) (w rest : List Lexeme) → (with_sign minus <$> rule.value g) w x → ends_column (next rest) ≡ true
+no_second_sign : (g : Parentheses) (minus : Option Bool) (x : SqlExpr) (w rest : List Lexeme) → (with_sign minus <$> rule.value g) w x → ends_column (next rest) ≡ true
     → after always (λ o. is_some (meaning_of minus_of o)) (next (w ++ rest)) ≡ true
 no_second_sign g minus x w rest (both {a = y} u v t s) h = ap (λ o. not (is_some (meaning_of minus_of o))) (next_append u v rest)
     ∙ ap (λ m. not (is_some m)) (no_sign_begins (next (u ++ (v ++ rest))) (value_first g u y (v ++ rest) t))
 
-signed_law : {n : ℕ} {g g' : Groups} {k k' : Nested} → LevelLaw n g g' k k' → Lawful n (rule.signed g) (rule.signed g') (signed k) (signed k') ends_column
+signed_law : {n : ℕ} {g g' : Parentheses} {k k' : Nested} → LevelLaw n g g' k k' → Lawful n (rule.signed g) (rule.signed g') (signed k) (signed k') ends_column
 unfolding signed rule.signed
 signed_law {g = g} level = then_law (maybe_law (take_if_law minus_of refl refl)) (λ minus. made_law (with_sign minus) (value_law level)) (no_second_sign g)
 
@@ -354,30 +354,30 @@ ends_of_expr o h = refl
 ends_product_of_expr : (o : Option Lexeme) → ends_expr o ≡ true → ends_product o ≡ true
 ends_product_of_expr o h = and_left (ends_product o) _ (ends_of_expr o h)
 
-product_from_law : {n : ℕ} {g g' : Groups} {k k' : Nested} → LevelLaw n g g' k k' → (x : SqlExpr)
+product_from_law : {n : ℕ} {g g' : Parentheses} {k k' : Nested} → LevelLaw n g g' k k' → (x : SqlExpr)
     → Lawful n (product_rest g x) (product_rest g' x) (product_from k x) (product_from k' x) ends_product
 unfolding product_from
 product_from_law level x = made_law (chained x) (many_law (operations_law factor_operator_of refl refl (signed_law level)) (λ l. factor_ends (Some l)))
 
-product_law : {n : ℕ} {g g' : Groups} {k k' : Nested} → LevelLaw n g g' k k' → Lawful n (rule.product g) (rule.product g') (product k) (product k') ends_product
+product_law : {n : ℕ} {g g' : Parentheses} {k k' : Nested} → LevelLaw n g g' k k' → Lawful n (rule.product g) (rule.product g') (product k) (product k') ends_product
 unfolding product rule.product
 product_law level = then_law (signed_law level) (product_from_law level)
     (λ a b v rest t h. many_made_follows ends_column factor_ends v b rest t (and_left (ends_column (next rest)) _ h))
 
-sum_from_law : {n : ℕ} {g g' : Groups} {k k' : Nested} → LevelLaw n g g' k k' → (x : SqlExpr)
+sum_from_law : {n : ℕ} {g g' : Parentheses} {k k' : Nested} → LevelLaw n g g' k k' → (x : SqlExpr)
     → Lawful n (sum_rest g x) (sum_rest g' x) (sum_from k x) (sum_from k' x) ends_expr
 unfolding sum_from
 sum_from_law level x = made_law (chained x) (narrower_law (many_law (operations_law term_operator_of refl refl (product_law level)) (λ l. term_ends (Some l))) ends_of_expr)
 
-sum_follows : (g : Groups) (x y : SqlExpr) (v rest : List Lexeme) → sum_rest g x v y → ends_expr (next rest) ≡ true → ends_product (next (v ++ rest)) ≡ true
+sum_follows : (g : Parentheses) (x y : SqlExpr) (v rest : List Lexeme) → sum_rest g x v y → ends_expr (next rest) ≡ true → ends_product (next (v ++ rest)) ≡ true
 sum_follows g x y v rest t h = many_made_follows ends_product term_ends v y rest t (ends_product_of_expr (next rest) h)
 
-pub expr_law : {n : ℕ} {g g' : Groups} {k k' : Nested} → LevelLaw n g g' k k' → Lawful n (rule.expr g) (rule.expr g') (expr k) (expr k') ends_expr
+pub expr_law : {n : ℕ} {g g' : Parentheses} {k k' : Nested} → LevelLaw n g g' k k' → Lawful n (rule.expr g) (rule.expr g') (expr k) (expr k') ends_expr
 unfolding expr rule.expr
 expr_law {g = g} level = then_law (product_law level) (sum_from_law level) (sum_follows g)
 
 -- an expression whose first value is read already
-pub expr_from_law : {n : ℕ} {g g' : Groups} {k k' : Nested} → LevelLaw n g g' k k' → (x : SqlExpr)
+pub expr_from_law : {n : ℕ} {g g' : Parentheses} {k k' : Nested} → LevelLaw n g g' k k' → (x : SqlExpr)
     → Lawful n (expr_rest g x) (expr_rest g' x) (expr_from k x) (expr_from k' x) ends_expr
 unfolding expr_from
 expr_from_law {g = g} level x = then_law (product_from_law level x) (sum_from_law level) (sum_follows g)
@@ -402,29 +402,29 @@ value_starts (Some (Sign Minus)) h = refl
 value_starts (Some (Sign s)) h = h
 value_starts o h = h
 
-signed_parts : (g : Groups) (w : List Lexeme) (x : SqlExpr) → rule.signed g w x
+signed_parts : (g : Parentheses) (w : List Lexeme) (x : SqlExpr) → rule.signed g w x
     → Either (Then (One minus_of) (λ minus. Then (rule.value g) (λ x. Empty (with_sign (Some minus) x)))) (rule.value g) w x
 unfolding rule.signed
 signed_parts g w x t = either_map (λ w x t. t) (λ w x t. then_empty w x t) w x (maybe_then w x t)
 
-expr_parts : (g : Groups) (w : List Lexeme) (x : SqlExpr) → rule.expr g w x → Then (rule.signed g) (expr_rest g) w x
+expr_parts : (g : Parentheses) (w : List Lexeme) (x : SqlExpr) → rule.expr g w x → Then (rule.signed g) (expr_rest g) w x
 unfolding rule.expr rule.product
 expr_parts g w x t = then_assoc w x t
 
-signed_first : (g : Groups) (w : List Lexeme) (x : SqlExpr) (rest : List Lexeme) → rule.signed g w x → starts_expr (next (w ++ rest)) ≡ true
+signed_first : (g : Parentheses) (w : List Lexeme) (x : SqlExpr) (rest : List Lexeme) → rule.signed g w x → starts_expr (next (w ++ rest)) ≡ true
 signed_first g w x rest t = go (signed_parts g w x t)
   where
     go : Either (Then (One minus_of) (λ minus. Then (rule.value g) (λ x. Empty (with_sign (Some minus) x)))) (rule.value g) w x → starts_expr (next (w ++ rest)) ≡ true
     go (first t) = sign_starts _ (one_first w x rest t)
     go (second t) = value_starts _ (value_first g w x rest t)
 
-parts_first : (g : Groups) (w : List Lexeme) (x : SqlExpr) (rest : List Lexeme) → Then (rule.signed g) (expr_rest g) w x → starts_expr (next (w ++ rest)) ≡ true
+parts_first : (g : Parentheses) (w : List Lexeme) (x : SqlExpr) (rest : List Lexeme) → Then (rule.signed g) (expr_rest g) w x → starts_expr (next (w ++ rest)) ≡ true
 parts_first g w x rest (both {a = y} u v t s) = ap starts_expr (next_append u v rest) ∙ signed_first g u y (v ++ rest) t
 
-pub expr_first : (g : Groups) (w : List Lexeme) (x : SqlExpr) (rest : List Lexeme) → rule.expr g w x → starts_expr (next (w ++ rest)) ≡ true
+pub expr_first : (g : Parentheses) (w : List Lexeme) (x : SqlExpr) (rest : List Lexeme) → rule.expr g w x → starts_expr (next (w ++ rest)) ≡ true
 expr_first g w x rest t = parts_first g w x rest (expr_parts g w x t)
 
-pub counted_content_law : {n : ℕ} {g g' : Groups} {k k' : Nested} → LevelLaw n g g' k k'
+pub counted_content_law : {n : ℕ} {g g' : Parentheses} {k k' : Nested} → LevelLaw n g g' k k'
     → Lawful n (counted_in g) (counted_in g') (counted k) (counted k') ends_expr
 unfolding counted same_sign
 counted_content_law {g = g} {k = k} {k' = k'} level = branch_law (is_sign Star) refl refl (counted_by k) (counted_by k') (pure_until None) (made_law (λ x. Some x) (expr_law level))
@@ -436,12 +436,12 @@ counted_content_law {g = g} {k = k} {k' = k'} level = branch_law (is_sign Star) 
 -- ---- an expression by its first value
 
 -- a value and what follows it make an expression
-pub expr_of_value : (g : Groups) (w : List Lexeme) (x : SqlExpr) → Then (rule.value g) (expr_rest g) w x → rule.expr g w x
+pub expr_of_value : (g : Parentheses) (w : List Lexeme) (x : SqlExpr) → Then (rule.value g) (expr_rest g) w x → rule.expr g w x
 unfolding rule.expr rule.product rule.signed
 expr_of_value g w x t = then_assoc_back w x (then_map (λ w x t. maybe_then_back w x (second (made (with_sign None) w x t))) (λ a w x t. t) w x t)
 
 -- an expression that no sign begins is a value and what follows it
-pub value_of_expr : (g : Groups) (w : List Lexeme) (x : SqlExpr) (rest : List Lexeme) → rule.expr g w x → meaning_of minus_of (next (w ++ rest)) ≡ None
+pub value_of_expr : (g : Parentheses) (w : List Lexeme) (x : SqlExpr) (rest : List Lexeme) → rule.expr g w x → meaning_of minus_of (next (w ++ rest)) ≡ None
     → Then (rule.value g) (expr_rest g) w x
 value_of_expr g w x rest t h = go w x (expr_parts g w x t) h
   where

@@ -5,11 +5,11 @@ use Rattle.pdw_lex.specs.declared.sign.Sign.TheVariants as signs
 use Rattle.pdw_lex.specs.declared.token.Lexeme.{Lexeme}
 use Rattle.pdw_lex.specs.declared.token.Lexeme.TheVariants as lexeme
 use Rattle.pdw_syntax.specs.Rule.{Empty, empty, one, Then, both, Either, first, second, absent, none, Enclosed}
-use Rattle.pdw_syntax.specs.Groups.{no_groups}
+use Rattle.pdw_syntax.specs.Parentheses.{no_parentheses}
 use Rattle.pdw_syntax.specs.Exprs as expr_rule
 use Rattle.pdw_syntax.specs.Tables as table_rule
 use Rattle.pdw_syntax.specs.Queries as query_rule
-use Rattle.pdw_syntax.specs.Texts.{groups}
+use Rattle.pdw_syntax.specs.Texts.{parentheses}
 use Rattle.pdw_syntax.specs.declared.expr.SqlExpr.TheVariants as e
 use Rattle.pdw_syntax.specs.declared.query.Items.TheVariants as items_are
 use Rattle.pdw_syntax.specs.declared.query.Primary.TheVariants as p
@@ -36,19 +36,19 @@ use Rattle.pdw_reading.proofs.Rules.{made, either_map, enclosed_either, enclosed
 -- ---- texts with no parentheses
 
 -- 1
-one_value : expr_rule.value no_groups (lexeme.Number (pos 1) ∷ []) (e.Number (pos 1))
+one_value : expr_rule.value no_parentheses (lexeme.Number (pos 1) ∷ []) (e.Number (pos 1))
 unfolding expr_rule.value
 one_value = first (made e.Number (lexeme.Number (pos 1) ∷ []) (pos 1) (one (lexeme.Number (pos 1)) refl))
 
-one_signed : expr_rule.signed no_groups (lexeme.Number (pos 1) ∷ []) (e.Number (pos 1))
+one_signed : expr_rule.signed no_parentheses (lexeme.Number (pos 1) ∷ []) (e.Number (pos 1))
 unfolding expr_rule.signed
 one_signed = both [] (lexeme.Number (pos 1) ∷ []) absent (made (λ x. x) (lexeme.Number (pos 1) ∷ []) (e.Number (pos 1)) one_value)
 
-one_product : expr_rule.product no_groups (lexeme.Number (pos 1) ∷ []) (e.Number (pos 1))
+one_product : expr_rule.product no_parentheses (lexeme.Number (pos 1) ∷ []) (e.Number (pos 1))
 unfolding expr_rule.product
 one_product = both (lexeme.Number (pos 1) ∷ []) [] one_signed (both [] [] none empty)
 
-one_expr : expr_rule.expr no_groups (lexeme.Number (pos 1) ∷ []) (e.Number (pos 1))
+one_expr : expr_rule.expr no_parentheses (lexeme.Number (pos 1) ∷ []) (e.Number (pos 1))
 unfolding expr_rule.expr
 one_expr = both (lexeme.Number (pos 1) ∷ []) [] one_product (both [] [] none empty)
 
@@ -59,7 +59,7 @@ some_table = roll-TableRef (record { first = p.Named [] None; joins = [] })
 some_name : List Lexeme
 some_name = lexeme.Name [] ∷ []
 
-a_table : table_rule.table_reference no_groups some_name some_table
+a_table : table_rule.table_reference no_parentheses some_name some_table
 unfolding some_name some_table table_rule.table_reference table_rule.primary
 a_table = both (lexeme.Name [] ∷ []) [] (first (both (lexeme.Name [] ∷ []) [] (one (lexeme.Name []) refl) (both [] [] absent empty))) (both [] [] none empty)
 
@@ -67,7 +67,7 @@ a_table = both (lexeme.Name [] ∷ []) [] (first (both (lexeme.Name [] ∷ []) [
 some_query : Query
 some_query = roll-Query (record { distinct = false; items = items_are.Star; from = some_table ∷ []; filter = None; group = []; having = None })
 
-a_query : query_rule.query no_groups (lexeme.Key KwSelect ∷ lexeme.Sign signs.Star ∷ lexeme.Key KwFrom ∷ some_name) some_query
+a_query : query_rule.query no_parentheses (lexeme.Key KwSelect ∷ lexeme.Sign signs.Star ∷ lexeme.Key KwFrom ∷ some_name) some_query
 unfolding some_name some_query query_rule.query query_rule.items table_rule.tables
 a_query =
     both (lexeme.Key KwSelect ∷ []) (lexeme.Sign signs.Star ∷ lexeme.Key KwFrom ∷ some_name) (one (lexeme.Key KwSelect) (key_at KwSelect))
@@ -101,8 +101,8 @@ no_choice f h w c (first t) = no_made f w c t
 no_choice f h w c (second t) = no_made h w c t
 
 -- where no parenthesis may be open
-lowest_law : LevelLaw 0 (groups 0) (groups 1) (nested 0) (nested 1)
-unfolding groups nested some_name
+lowest_law : LevelLaw 0 (parentheses 0) (parentheses 1) (nested 0) (nested 1)
+unfolding parentheses nested some_name
 lowest_law = record {
   expr = closed_law (expr_read.expr none_nested) (λ w a t. t) (record { text = lexeme.Number (pos 1) ∷ []; means = e.Number (pos 1); spells = one_expr });
   counts = choice_enclosed (λ u. None) (λ x. Some x) (closed_law (expr_read.counted none_nested) (no_choice (λ u. None) (λ x. Some x))
@@ -122,9 +122,9 @@ lowest_law = record {
 }
 
 -- the level above one that owes this
-higher_law : (n : ℕ) → LevelLaw n (groups n) (groups (suc n)) (nested n) (nested (suc n))
-    → LevelLaw (suc n) (groups (suc n)) (groups (suc (suc n))) (nested (suc n)) (nested (suc (suc n)))
-unfolding groups nested
+higher_law : (n : ℕ) → LevelLaw n (parentheses n) (parentheses (suc n)) (nested n) (nested (suc n))
+    → LevelLaw (suc n) (parentheses (suc n)) (parentheses (suc (suc n))) (nested (suc n)) (nested (suc (suc n)))
+unfolding parentheses nested
 higher_law n level = record {
   expr = enclosed_law (expr_law level) refl;
   counts = choice_enclosed (λ u. None) (λ x. Some x) (enclosed_law (counted_content_law level) refl);
@@ -134,6 +134,6 @@ higher_law n level = record {
   sources = choice_enclosed source_is.Query source_is.Tables (enclosed_law (source_content_law level) refl);
 }
 
-pub level_law : (n : ℕ) → LevelLaw n (groups n) (groups (suc n)) (nested n) (nested (suc n))
+pub level_law : (n : ℕ) → LevelLaw n (parentheses n) (parentheses (suc n)) (nested n) (nested (suc n))
 level_law zero = lowest_law
 level_law (suc n) = higher_law n (level_law n)

@@ -3,11 +3,11 @@ use Rattle.std.proofs.Common.{◌≡◌, ℕ, zero, suc, ◌+◌, ◌≤◌, Lis
 use Rattle.pdw_lex.specs.declared.sign.Sign.TheVariants.{ParenOpen, Semicolon}
 use Rattle.pdw_lex.specs.declared.token.Lexeme.{Lexeme}
 use Rattle.pdw_lex.specs.declared.token.Lexeme.TheVariants.{Sign}
-use Rattle.pdw_syntax.specs.Groups.{Groups}
+use Rattle.pdw_syntax.specs.Parentheses.{Parentheses}
 use Rattle.pdw_syntax.specs.Lexemes.{is_sign}
 use Rattle.pdw_syntax.specs.Queries.{select}
 use Rattle.pdw_syntax.specs.Statements.{statement}
-use Rattle.pdw_syntax.specs.Texts.{groups, script, IsText}
+use Rattle.pdw_syntax.specs.Texts.{parentheses, script, IsText}
 use Rattle.pdw_syntax.specs.declared.query.Select.{Select}
 use Rattle.pdw_syntax.specs.declared.statement.Statement.{Statement}
 use Rattle.pdw_reading.specs.Levels.{nested}
@@ -26,7 +26,7 @@ use Rattle.pdw_reading.proofs.StatementLaws.{next_statement_law, script_law as s
 
 -- ---- texts of a level are texts of the levels above it
 
-statement_wider : (g g' : Groups) → ((w : List Lexeme) (s : Select) → select g w s → select g' w s)
+statement_wider : (g g' : Parentheses) → ((w : List Lexeme) (s : Select) → select g w s → select g' w s)
     → (w : List Lexeme) (x : Statement) → statement g w x → statement g' w x
 unfolding statement
 statement_wider g g' into =
@@ -35,17 +35,17 @@ statement_wider g g' into =
     (either_map (then_map (then_map (λ v y t. t) (λ u. into)) (λ y v z t. t))
     (then_map (λ v y t. t) (λ u. then_map (λ v y t. t) (λ u'. then_map (λ v y t. t) (λ file. then_map (λ v y t. t) (λ u''. then_map into (λ y v z t. t))))))))))))))
 
-script_wider : (k : ℕ) (w : List Lexeme) (ss : List Statement) → script (groups k) w ss → script (groups (suc k)) w ss
-script_wider k = many_map (then_map (statement_wider (groups k) (groups (suc k)) (select_law (level_law k)).wider) (λ x w y t. t))
+script_wider : (k : ℕ) (w : List Lexeme) (ss : List Statement) → script (parentheses k) w ss → script (parentheses (suc k)) w ss
+script_wider k = many_map (then_map (statement_wider (parentheses k) (parentheses (suc k)) (select_law (level_law k)).wider) (λ x w y t. t))
 
-script_widest : (j k : ℕ) (w : List Lexeme) (ss : List Statement) → script (groups k) w ss → script (groups (j + k)) w ss
-script_widest zero k w ss t = let none : k ≡ 0 + k = omega arith in subst (λ m. script (groups m) w ss) none t
+script_widest : (j k : ℕ) (w : List Lexeme) (ss : List Statement) → script (parentheses k) w ss → script (parentheses (j + k)) w ss
+script_widest zero k w ss t = let none : k ≡ 0 + k = omega arith in subst (λ m. script (parentheses m) w ss) none t
 script_widest (suc j) k w ss t = let one : suc (j + k) ≡ suc j + k = omega arith in
-    subst (λ m. script (groups m) w ss) one (script_wider (j + k) w ss (script_widest j k w ss t))
+    subst (λ m. script (parentheses m) w ss) one (script_wider (j + k) w ss (script_widest j k w ss t))
 
 -- ---- the readings of a level
 
-pub script_law : (n : ℕ) → Lawful (suc (suc n)) (script (groups (suc (suc n)))) (script (groups (suc (suc (suc n))))) (read_script (nested (suc (suc n)))) (read_script (nested (suc (suc (suc n))))) is_none
+pub script_law : (n : ℕ) → Lawful (suc (suc n)) (script (parentheses (suc (suc n)))) (script (parentheses (suc (suc (suc n))))) (read_script (nested (suc (suc n)))) (read_script (nested (suc (suc (suc n))))) is_none
 script_law n = script_law_at (level_law (suc (suc n)))
 
 -- more levels read the same
@@ -69,7 +69,7 @@ reads_text : (ts : List Lexeme) (ss : List Statement) (t : IsText ts ss) (n : �
 reads_text ts ss t n =
     let enough : suc (suc n) + t.levels ≡ suc (suc (t.levels + n)) = omega arith in
     ap (λ us. read_script (nested (suc (suc (t.levels + n)))) us) (sym (append-nil ts))
-    ∙ (script_law (t.levels + n)).again ts ss [] (subst (λ m. script (groups m) ts ss) enough (script_widest (suc (suc n)) t.levels ts ss t.spells)) refl
+    ∙ (script_law (t.levels + n)).again ts ss [] (subst (λ m. script (parentheses m) ts ss) enough (script_widest (suc (suc n)) t.levels ts ss t.spells)) refl
 
 -- ---- what the outcomes tell
 
@@ -112,11 +112,11 @@ never_stops n ts rest ss stops t =
 
 -- what the law tells of an outcome that is known
 tells_at : (n : ℕ) (ts : List Lexeme) (o : Outcome (List Statement)) → read_script (nested (suc (suc n))) ts ≡ o
-    → Tells (suc (suc n)) (script (groups (suc (suc n)))) (script (groups (suc (suc (suc n))))) (read_script (nested (suc (suc n)))) ts o
+    → Tells (suc (suc n)) (script (parentheses (suc (suc n)))) (script (parentheses (suc (suc (suc n))))) (read_script (nested (suc (suc n)))) ts o
 tells_at n ts o is =
-    subst (λ p. Tells (suc (suc n)) (script (groups (suc (suc n)))) (script (groups (suc (suc (suc n))))) (read_script (nested (suc (suc n)))) ts p) is ((script_law n).tells ts)
+    subst (λ p. Tells (suc (suc n)) (script (parentheses (suc (suc n)))) (script (parentheses (suc (suc (suc n))))) (read_script (nested (suc (suc n)))) ts p) is ((script_law n).tells ts)
 
-begins_text : (n : ℕ) (w : List Lexeme) → Begins (script (groups n)) w → BeginsText w
+begins_text : (n : ℕ) (w : List Lexeme) → Begins (script (parentheses n)) w → BeginsText w
 begins_text n w b = record { more = b.more; means = b.means; text = record { levels = n; spells = b.spells } }
 
 within_limit : (n : ℕ) (w : List Lexeme) → ((d : ℕ) → Within (d + n) d w) → Within n 0 w
@@ -136,7 +136,7 @@ syntax_place n ts rest stops = (
   },
 )
   where
-    told : TellsSyntax (suc (suc n)) (script (groups (suc (suc (suc n))))) (read_script (nested (suc (suc n)))) ts rest
+    told : TellsSyntax (suc (suc n)) (script (parentheses (suc (suc (suc n))))) (read_script (nested (suc (suc n)))) ts rest
     told = tells_at n ts (stopped Syntax rest) stops
 
     no_more : (l : Lexeme) (us : List Lexeme) → rest ≡ l ∷ us → BeginsText (told.front ++ l ∷ []) → ⊥
@@ -158,7 +158,7 @@ too_deep_place n ts rest stops = (
   },
 )
   where
-    told : TellsTooDeep (suc (suc n)) (script (groups (suc (suc (suc n))))) ts rest
+    told : TellsTooDeep (suc (suc n)) (script (parentheses (suc (suc (suc n))))) ts rest
     told = tells_at n ts (stopped TooDeep rest) stops
 
 -- memory is wanted by no reading of lists
@@ -196,12 +196,12 @@ pub record IsRead (limit : ℕ) (ts : List Lexeme) (ss : List Statement) (rest :
 pub read_text : (n : ℕ) (ts : List Lexeme) (ss : List Statement) (rest : List Lexeme) → read_script (nested (suc (suc n))) ts ≡ read ss rest
     → IsRead (suc (suc n)) ts ss rest
 read_text n ts ss rest reads = record {
-  text = record { levels = suc (suc n); spells = subst (λ w. script (groups (suc (suc n))) w ss) whole told.spells };
+  text = record { levels = suc (suc n); spells = subst (λ w. script (parentheses (suc (suc n))) w ss) whole told.spells };
   within = subst (λ w. Within (suc (suc n)) 0 w) whole (within_limit (suc (suc n)) told.front ((script_law n).balanced told.front ss told.spells).within);
   to_end = to_end;
 }
   where
-    told : TellsRead (script (groups (suc (suc n)))) (read_script (nested (suc (suc n)))) ts ss rest
+    told : TellsRead (script (parentheses (suc (suc n)))) (read_script (nested (suc (suc n)))) ts ss rest
     told = tells_at n ts (read ss rest) reads
 
     to_end : rest ≡ []

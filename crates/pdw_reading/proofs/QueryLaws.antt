@@ -6,7 +6,7 @@ use Rattle.pdw_lex.specs.declared.token.Lexeme.{Lexeme}
 use Rattle.pdw_lex.specs.declared.token.Lexeme.TheVariants as lexeme
 use Rattle.pdw_syntax.specs.Rule.{Rule, Empty, empty, One, Then, both, Either, first, second, Maybe, absent, present}
 use Rattle.pdw_syntax.specs.Lexemes.{same_keyword, same_sign, is_key, is_sign, name_of, quantifier_of, direction_of, order_name_of, name}
-use Rattle.pdw_syntax.specs.Groups.{Groups}
+use Rattle.pdw_syntax.specs.Parentheses.{Parentheses}
 use Rattle.pdw_syntax.specs.Exprs as expr_rule
 use Rattle.pdw_syntax.specs.Conds as cond_rule
 use Rattle.pdw_syntax.specs.Tables as table_rule
@@ -164,19 +164,19 @@ leads_ordering order narrower = leads_made (leads_maybe (leads_first (leads_firs
 -- ---- items
 
 -- what follows the first value of an item
-abbrev made_rest : Groups → SqlExpr → Rule Item
+abbrev made_rest : Parentheses → SqlExpr → Rule Item
 made_rest g x = Then (expr_rest g x) (λ y. Then (Maybe table_rule.called) (λ o. Empty (Made y o)))
 
 -- what follows a name and a dot
-abbrev dotted : Groups → List ℕ → Rule Item
+abbrev dotted : Parentheses → List ℕ → Rule Item
 dotted g m = Either (Then (One (is_sign Star)) (λ a. Empty (AliasStar m))) (Then name (λ c. made_rest g (Col (record { alias = Some m; column = c }))))
 
 -- an item that begins with a name
-abbrev named : Groups → Rule Item
+abbrev named : Parentheses → Rule Item
 named g = Then name (λ m. Either (Then (One (is_sign Dot)) (λ a. dotted g m)) (made_rest g (Col (record { alias = None; column = m }))))
 
 -- an item that is an expression
-abbrev made_item : Groups → Rule Item
+abbrev made_item : Parentheses → Rule Item
 made_item g = Then (expr_rule.expr g) (λ x. Then (Maybe table_rule.called) (λ o. Empty (Made x o)))
 
 read_named : Nested → Reader Item
@@ -189,7 +189,7 @@ leads_made_alias : {s : Option Lexeme → Bool} (x : SqlExpr) → s (Some (lexem
     → Leads (Then (Maybe table_rule.called) (λ o. Empty (Made x o))) ends_item s
 leads_made_alias x at_as at_name narrower = leads_made (leads_maybe (leads_called at_as at_name) narrower)
 
-module _ (g : Groups) where
+module _ (g : Parentheses) where
   column_item : (w : List Lexeme) (a : Item) → Then name (after_name (λ c. made_rest g (Col c))) w a → made_item g w a
   column_item w a spells = then_map (expr_of_column g) (λ x v b r. r) w a (then_assoc_back w a (column_join {S = λ c. made_rest g (Col c)} w a spells))
 
@@ -231,11 +231,11 @@ module _ (g : Groups) where
   leads_query select = leads_first (leads_one (narrower_key KwSelect select))
 
 -- a query, or expressions
-abbrev pub among_content : Groups → Rule Among
+abbrev pub among_content : Parentheses → Rule Among
 among_content g = Either (Then (rule.query g) (λ q. Empty (among_is.Query q))) (Then (expr_rule.listed (expr_rule.expr g)) (λ xs. Empty (among_is.Exprs xs)))
 
 -- a query, or tables
-abbrev pub source_content : Groups → Rule Source
+abbrev pub source_content : Parentheses → Rule Source
 source_content g = Either (Then (rule.query g) (λ q. Empty (source_is.Query q))) (Then (table_rule.table_reference g) (λ t. Empty (source_is.Tables t)))
 
 item_by_name : (k : Nested) (ts : List Lexeme) → reads.item k ts ≡ choose (read_named k) (read_made k) (seen name_of (next ts)) ts
@@ -247,7 +247,7 @@ item_by_name k (lexeme.Sign m ∷ ts) = refl
 item_by_name k (lexeme.Number m ∷ ts) = refl
 item_by_name k (lexeme.Text m ∷ ts) = refl
 
-module _ {n : ℕ} {g g' : Groups} {k k' : Nested} (level : LevelLaw n g g' k k') where
+module _ {n : ℕ} {g g' : Parentheses} {k k' : Nested} (level : LevelLaw n g g' k k') where
   alias_end : Lawful n (Maybe table_rule.called) (Maybe table_rule.called) alias alias ends_item
   unfolding same_sign same_keyword
   alias_end = narrower_law alias_law (narrower_item refl refl).into

@@ -6,7 +6,7 @@ use Rattle.pdw_lex.specs.declared.sign.Sign.TheVariants.{Comma, Equal, Semicolon
 use Rattle.pdw_lex.specs.declared.token.Lexeme.{Lexeme}
 use Rattle.pdw_lex.specs.declared.token.Lexeme.TheVariants as lexeme
 use Rattle.pdw_syntax.specs.Rule.{Rule, Empty, empty, One, Then, both, Either, first, second, Maybe, absent, present, Many, Enclosed}
-use Rattle.pdw_syntax.specs.Groups.{Groups}
+use Rattle.pdw_syntax.specs.Parentheses.{Parentheses}
 use Rattle.pdw_syntax.specs.Lexemes.{same_keyword, same_sign, is_key, is_sign, is_word, number_of, kind_of, cost_part_of}
 use Rattle.pdw_syntax.specs.Exprs.{listed}
 use Rattle.pdw_syntax.specs.Queries.{select}
@@ -175,11 +175,11 @@ setting_law =
 -- ---- statements that hold a SELECT
 
 -- EXPLAIN as it is read
-abbrev explained : Groups → Rule Statement
+abbrev explained : Parentheses → Rule Statement
 explained g = Then (One (is_word (codes "explain")))
     (λ a. Either (Then (One (is_word (codes "json"))) (λ b. Then (select g) (λ q. Empty (s.ExplainJson q)))) (Then (select g) (λ q. Empty (s.Explain q))))
 
-module _ (g : Groups) where
+module _ (g : Parentheses) where
   explain_into : (w : List Lexeme) (x : Statement) → rule.explain g w x → explained g w x
   explain_into w x (first spells) = then_map (λ v y q. q) (λ y v z q. second q) w x (then_assoc w x spells)
   explain_into w x (second spells) = then_map (λ v y q. q) (λ y v z q. first q) w x (then_assoc w x (then_assoc w x spells))
@@ -193,34 +193,34 @@ module _ (g : Groups) where
   leads_select at_select = leads_first (leads_query g at_select)
 
 -- the statements in the rule's order, where SET is read at once
-abbrev from_check : Groups → Rule Statement
+abbrev from_check : Parentheses → Rule Statement
 from_check g = rule.check_plan g
 
-abbrev from_profile : Groups → Rule Statement
+abbrev from_profile : Parentheses → Rule Statement
 from_profile g = Either (rule.profile g) (from_check g)
 
-abbrev from_explain : Groups → Rule Statement
+abbrev from_explain : Parentheses → Rule Statement
 from_explain g = Either (rule.explain g) (from_profile g)
 
-abbrev from_select : Groups → Rule Statement
+abbrev from_select : Parentheses → Rule Statement
 from_select g = Either (Then (select g) (λ q. Empty (s.Select q))) (from_explain g)
 
-abbrev from_set : Groups → Rule Statement
+abbrev from_set : Parentheses → Rule Statement
 from_set g = Either setting (from_select g)
 
-abbrev from_update : Groups → Rule Statement
+abbrev from_update : Parentheses → Rule Statement
 from_update g = Either rule.statistics (from_set g)
 
-abbrev from_load : Groups → Rule Statement
+abbrev from_load : Parentheses → Rule Statement
 from_load g = Either rule.load (from_update g)
 
-abbrev from_drop : Groups → Rule Statement
+abbrev from_drop : Parentheses → Rule Statement
 from_drop g = Either rule.drop_table (from_load g)
 
-abbrev from_create : Groups → Rule Statement
+abbrev from_create : Parentheses → Rule Statement
 from_create g = Either rule.create (from_drop g)
 
-module _ (g : Groups) where
+module _ (g : Parentheses) where
   statement_into : (w : List Lexeme) (x : Statement) → rule.statement g w x → from_create g w x
   unfolding rule.statement
   statement_into w x (first spells) = first spells
@@ -341,7 +341,7 @@ module _ (k : Nested) where
   statement_by_first (lexeme.Number m ∷ ts) = refl
   statement_by_first (lexeme.Text m ∷ ts) = refl
 
-module _ {n : ℕ} {g g' : Groups} {k k' : Nested} (level : LevelLaw n g g' k k') where
+module _ {n : ℕ} {g g' : Parentheses} {k k' : Nested} (level : LevelLaw n g g' k k') where
   pub explain_law : Lawful n (rule.explain g) (rule.explain g') (reads.explain k) (reads.explain k') ends_statement
   unfolding reads.explain
   explain_law =
@@ -411,7 +411,7 @@ module _ {n : ℕ} {g g' : Groups} {k k' : Nested} (level : LevelLaw n g g' k k'
       (leads_first (leads_first (leads_one narrower_same))) (leads_load g refl refl refl refl refl refl refl)
 
 -- CREATE TABLE has parentheses inside parentheses
-module _ {n : ℕ} {g g' : Groups} {k k' : Nested} (level : LevelLaw (suc (suc n)) g g' k k') where
+module _ {n : ℕ} {g g' : Parentheses} {k k' : Nested} (level : LevelLaw (suc (suc n)) g g' k k') where
   create_or_law : Lawful (suc (suc n)) (from_create g) (from_create g') (read_from_create k) (read_from_create k') ends_statement
   unfolding read_from_create same_keyword
   create_or_law =
@@ -424,7 +424,7 @@ module _ {n : ℕ} {g g' : Groups} {k k' : Nested} (level : LevelLaw (suc (suc n
 -- ---- scripts
 
 -- a statement and its semicolon
-abbrev ended : Groups → Rule Statement
+abbrev ended : Parentheses → Rule Statement
 ended g = Then (rule.statement g) (λ x. Then (One (is_sign Semicolon)) (λ a. Empty x))
 
 read_ended : Nested → Reader Statement
@@ -445,7 +445,7 @@ none_next : (o : Option Lexeme) → is_none o ≡ true → after always is_some 
 none_next None e = refl
 none_next (Some l) e = e
 
-module _ {n : ℕ} {g g' : Groups} {k k' : Nested} (level : LevelLaw (suc (suc n)) g g' k k') where
+module _ {n : ℕ} {g g' : Parentheses} {k k' : Nested} (level : LevelLaw (suc (suc n)) g g' k k') where
   pub next_statement_law : LawfulStep (suc (suc n)) (ended g) (ended g') (reads.next_statement k) (reads.next_statement k') always is_some
   unfolding read_ended same_sign
   next_statement_law =

@@ -6,7 +6,7 @@ use Rattle.pdw_lex.specs.declared.token.Lexeme.{Lexeme}
 use Rattle.pdw_lex.specs.declared.token.Lexeme.TheVariants as lexeme
 use Rattle.pdw_syntax.specs.Rule.{Rule, Empty, empty, One, Then, both, Either, first, second, Maybe, absent, present}
 use Rattle.pdw_syntax.specs.Lexemes.{same_keyword, is_key, name_of, outer_of, name}
-use Rattle.pdw_syntax.specs.Groups.{Groups}
+use Rattle.pdw_syntax.specs.Parentheses.{Parentheses}
 use Rattle.pdw_syntax.specs.Tables as rule
 use Rattle.pdw_syntax.specs.declared.query.JoinWord.{JoinWord}
 use Rattle.pdw_syntax.specs.declared.query.JoinWord.TheVariants.{Cross, Inner, Left, Right, Full}
@@ -132,7 +132,7 @@ after_source_law k k' (source.Tables t) = in_all (pure_law (p.Paren t))
 named : Reader Primary
 named = take name_of >>= (λ table. p.Named table <$> reads.alias)
 
-module _ (g : Groups) where
+module _ (g : Parentheses) where
   primary_into : (w : List Lexeme) (a : Primary) → rule.primary g w a
       → Either (Then name (λ t. Then (Maybe rule.called) (λ o. Empty (p.Named t o)))) (Then (source_in g) after_source) w a
   unfolding rule.primary
@@ -229,7 +229,7 @@ join_word_law =
     (leads_first (leads_one narrower_same))
     (leads_either (leads_first (leads_one (narrower_outer refl refl refl))) (leads_empty (narrower_key KwJoin refl)))
 
-module _ (g : Groups) where
+module _ (g : Parentheses) where
   -- what a join begins with
   pub leads_join : {s : Option Lexeme → Bool} → s (Some (lexeme.Key KwCross)) ≡ true → s (Some (lexeme.Key KwInner)) ≡ true → s (Some (lexeme.Key KwLeft)) ≡ true
       → s (Some (lexeme.Key KwRight)) ≡ true → s (Some (lexeme.Key KwFull)) ≡ true → s (Some (lexeme.Key KwJoin)) ≡ true → {t : Option Lexeme → Bool} → Leads (rule.join g) t s
@@ -292,7 +292,7 @@ begins_join-ends (lexeme.Name m) e = absurd (true≢false (sym e))
 begins_join-ends (lexeme.Number m) e = absurd (true≢false (sym e))
 begins_join-ends (lexeme.Text m) e = absurd (true≢false (sym e))
 
-module _ {n : ℕ} {g g' : Groups} {k k' : Nested} (level : LevelLaw n g g' k k') where
+module _ {n : ℕ} {g g' : Parentheses} {k k' : Nested} (level : LevelLaw n g g' k k') where
   pub primary_law : Lawful n (rule.primary g) (rule.primary g') (reads.primary k) (reads.primary k') ends_alias
   unfolding named sourced
   primary_law = same_law (primary_into g) (primary_back g) (primary_back g')

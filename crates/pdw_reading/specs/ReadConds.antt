@@ -81,13 +81,13 @@ module _ (g : Nested) where
   unfoldable pub predicate_from : SqlExpr → Reader SqlCond
   predicate_from x = take_if comparison_of >>= predicate_by x
 
-  abbrev pub after_group : Operand → Reader Operand
-  after_group (operand_is.Cond x) = pure (operand_is.Cond (c.Paren x))
-  after_group (operand_is.Expr x) = operand_is.Expr <$> expr_from g (ParenExpr x)
+  abbrev pub after_parentheses : Operand → Reader Operand
+  after_parentheses (operand_is.Cond x) = pure (operand_is.Cond (c.Paren x))
+  after_parentheses (operand_is.Expr x) = operand_is.Expr <$> expr_from g (ParenExpr x)
 
   abbrev pub started_by : Option Lexeme → Reader Operand
   started_by (Some (lexeme.Key KwExists)) = advance >> ((λ q. operand_is.Cond (c.Exists q)) <$> g.query)
-  started_by (Some (lexeme.Sign ParenOpen)) = g.operand >>= after_group
+  started_by (Some (lexeme.Sign ParenOpen)) = g.operand >>= after_parentheses
   started_by _ = operand_is.Expr <$> expr g
 
   -- a whole condition that begins one, or the expression that begins a predicate

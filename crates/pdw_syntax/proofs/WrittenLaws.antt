@@ -7,9 +7,9 @@ use Rattle.pdw_base.specs.declared.value.Kind.{Kind}
 use Rattle.pdw_base.specs.declared.value.Kind.TheVariants as kind_is
 use Rattle.pdw_syntax.specs.Conds as conds
 use Rattle.pdw_syntax.specs.Exprs as exprs
-use Rattle.pdw_syntax.specs.Groups.{Groups}
+use Rattle.pdw_syntax.specs.Parentheses.{Parentheses}
 use Rattle.pdw_syntax.specs.Lexemes.{aggregate_of, key, kind_of, text, text_of}
-use Rattle.pdw_syntax.specs.Texts.{IsWritten, groups, most_open, script}
+use Rattle.pdw_syntax.specs.Texts.{IsWritten, parentheses, most_open, script}
 use Rattle.pdw_syntax.specs.Queries as queries
 use Rattle.pdw_syntax.specs.Rule.{Rule, ◌>>=◌, ◌>>◌, pure, One, Maybe, Many}
 use Rattle.pdw_syntax.specs.Statements as statements
@@ -55,7 +55,7 @@ tokens_short bytes tokens lexes = subst (λ (ts : List Token). AllByRecursion Sh
 
 -- ---- what parentheses hold
 
-pub record GroupsWritten (g : Groups) : Type 0 where
+pub record ParenthesesWritten (g : Parentheses) : Type 0 where
   pub expr : Gives g.expr expr_written
   pub exprs : Gives g.exprs (list_all expr_written)
   pub cond : Gives g.cond cond_written
@@ -93,7 +93,7 @@ chain_gives : {operator : Lexeme → Option Arith} {R : Rule SqlExpr} → Gives 
     → Gives (R >>= (λ x. Many (exprs.operation operator R) >>= (λ links. pure (exprs.chained x links)))) expr_written
 chain_gives law = passed law (λ x is. passed (gives_many {test = λ link. expr_written link.1} (after (λ op. passed law (λ y are. gives_nothing are)))) (λ links are. gives_nothing (chain_written x links is are)))
 
-module _ (g : Groups) (laws : GroupsWritten g) where
+module _ (g : Parentheses) (laws : ParenthesesWritten g) where
   aggregate_gives : Gives (exprs.aggregate g) expr_written
   unfolding exprs.aggregate
   aggregate_gives = gives_either (after (λ star. gives_nothing count_written))
@@ -260,7 +260,7 @@ statistics_written table (Some handed) = refl
 statistics_gives : Gives statements.statistics statement_written
 statistics_gives = after (λ update. after (λ word. after (λ table. after (λ handed. gives_nothing (statistics_written table handed)))))
 
-module _ (g : Groups) (laws : GroupsWritten g) where
+module _ (g : Parentheses) (laws : ParenthesesWritten g) where
   explain_gives : Gives (statements.explain g) statement_written
   explain_gives = gives_either (passed (after (λ explain. select_gives g laws)) (λ s is. gives_nothing is)) (passed (after (λ json. select_gives g laws)) (λ s is. gives_nothing is))
 
@@ -280,33 +280,33 @@ module _ (g : Groups) (laws : GroupsWritten g) where
 
 -- ---- every level of parentheses
 
-groups_written : (levels : ℕ) → GroupsWritten (groups levels)
-unfolding groups
-groups_written zero = record {
+parentheses_written : (levels : ℕ) → ParenthesesWritten (parentheses levels)
+unfolding parentheses
+parentheses_written zero = record {
   expr = record { from = λ w a short r. absurd r };
   exprs = record { from = λ w a short r. absurd r };
   cond = record { from = λ w a short r. absurd r };
   query = record { from = λ w a short r. absurd r };
   tables = record { from = λ w a short r. absurd r };
 }
-groups_written (suc n) = let laws = groups_written n in record {
-  expr = expr_gives (groups n) laws;
-  exprs = gives_listed (expr_gives (groups n) laws);
-  cond = cond_gives (groups n) laws;
-  query = query_gives (groups n) laws;
-  tables = table_reference_gives (groups n) laws;
+parentheses_written (suc n) = let laws = parentheses_written n in record {
+  expr = expr_gives (parentheses n) laws;
+  exprs = gives_listed (expr_gives (parentheses n) laws);
+  cond = cond_gives (parentheses n) laws;
+  query = query_gives (parentheses n) laws;
+  tables = table_reference_gives (parentheses n) laws;
 }
 
-script_gives : (g : Groups) → GroupsWritten g → Gives (script g) (list_all statement_written)
+script_gives : (g : Parentheses) → ParenthesesWritten g → Gives (script g) (list_all statement_written)
 script_gives g laws = gives_many (passed (statement_gives g laws) (λ x is. after (λ semicolon. gives_nothing is)))
 
 -- a statement of the grammar is written whole, where its literals are not too long
-pub statement_is_written : (levels : ℕ) (lexemes : List Lexeme) (x : Statement) → AllByRecursion Short lexemes → statements.statement (groups levels) lexemes x → statement_written x ≡ true
-statement_is_written levels lexemes x short spells = (statement_gives (groups levels) (groups_written levels)).from lexemes x short spells
+pub statement_is_written : (levels : ℕ) (lexemes : List Lexeme) (x : Statement) → AllByRecursion Short lexemes → statements.statement (parentheses levels) lexemes x → statement_written x ≡ true
+statement_is_written levels lexemes x short spells = (statement_gives (parentheses levels) (parentheses_written levels)).from lexemes x short spells
 
 -- so is each of a script
-pub script_is_written : (levels : ℕ) (lexemes : List Lexeme) (xs : List Statement) → AllByRecursion Short lexemes → script (groups levels) lexemes xs → list_all statement_written xs ≡ true
-script_is_written levels lexemes xs short spells = (script_gives (groups levels) (groups_written levels)).from lexemes xs short spells
+pub script_is_written : (levels : ℕ) (lexemes : List Lexeme) (xs : List Statement) → AllByRecursion Short lexemes → script (parentheses levels) lexemes xs → list_all statement_written xs ≡ true
+script_is_written levels lexemes xs short spells = (script_gives (parentheses levels) (parentheses_written levels)).from lexemes xs short spells
 
 -- what some text means is written whole
 pub written : (x : Statement) → IsWritten x → statement_written x ≡ true
@@ -314,5 +314,5 @@ written x is = statement_is_written most_open (map (λ t. t.lexeme) is.tokens) x
 
 -- so is each statement that the tokens of bytes mean
 pub lexed_script_is_written : (levels : ℕ) (bytes : List ℕ) (tokens : List Token) (xs : List Statement) → Lexes 0 bytes tokens
-    → script (groups levels) (map (λ t. t.lexeme) tokens) xs → list_all statement_written xs ≡ true
+    → script (parentheses levels) (map (λ t. t.lexeme) tokens) xs → list_all statement_written xs ≡ true
 lexed_script_is_written levels bytes tokens xs lexes spells = script_is_written levels (map (λ t. t.lexeme) tokens) xs (tokens_short bytes tokens lexes) spells

@@ -4,7 +4,7 @@ use Rattle.pdw_base.specs.declared.truth.Truth.{Truth}
 use Rattle.pdw_lex.specs.declared.keyword.Keyword.TheVariants.{KwAnd, KwBetween, KwExists, KwIn, KwIs, KwLike, KwNot, KwNull, KwOr}
 use Rattle.pdw_syntax.specs.Rule.{Rule, ◌>>=◌, ◌>>◌, ◌<$>◌, ◌or◌, pure, One, Maybe, Many, Enclosed}
 use Rattle.pdw_syntax.specs.Lexemes.{key, comparison_of, truth_of}
-use Rattle.pdw_syntax.specs.Groups.{Groups}
+use Rattle.pdw_syntax.specs.Parentheses.{Parentheses}
 use Rattle.pdw_syntax.specs.Exprs.{expr}
 use Rattle.pdw_syntax.specs.declared.query.SqlCond.{SqlCond}
 use Rattle.pdw_syntax.specs.declared.query.SqlCond.TheVariants as c
@@ -37,7 +37,7 @@ abbrev pub tested : SqlCond → Option (Bool × Truth) → SqlCond
 tested x None = x
 tested x (Some t) = c.Test t.0 x t.1
 
-module _ (g : Groups) where
+module _ (g : Parentheses) where
   unfoldable pub comparison : Rule SqlCond
   comparison = do
     x ← expr g

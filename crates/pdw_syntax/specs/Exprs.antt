@@ -7,7 +7,7 @@ use Rattle.pdw_lex.specs.declared.sign.Sign.TheVariants.{Dot, Comma}
 use Rattle.pdw_lex.specs.declared.token.Lexeme.{Lexeme}
 use Rattle.pdw_syntax.specs.Rule.{Rule, ◌>>=◌, ◌>>◌, ◌<$>◌, ◌or◌, pure, One, Maybe, Many, Enclosed}
 use Rattle.pdw_syntax.specs.Lexemes.{key, sign, name, number, text, minus_of, aggregate_of, term_operator_of, factor_operator_of}
-use Rattle.pdw_syntax.specs.Groups.{Groups}
+use Rattle.pdw_syntax.specs.Parentheses.{Parentheses}
 use Rattle.pdw_syntax.specs.declared.expr.ColRef.{ColRef}
 use Rattle.pdw_syntax.specs.declared.expr.SqlExpr.{SqlExpr}
 use Rattle.pdw_syntax.specs.declared.expr.SqlExpr.TheVariants as e
@@ -42,7 +42,7 @@ column_reference = do
   column ← name
   pure (record { alias = alias; column = column })
 
-module _ (g : Groups) where
+module _ (g : Parentheses) where
   -- COUNT ( * ), or ( COUNT, SUM, MIN or MAX ) ( expr )
   unfoldable pub aggregate : Rule SqlExpr
   aggregate =

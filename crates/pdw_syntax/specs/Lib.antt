@@ -1,6 +1,6 @@
 pub mod Rule
 pub mod Lexemes
-pub mod Groups
+pub mod Parentheses
 pub mod Exprs
 pub mod Conds
 pub mod Tables

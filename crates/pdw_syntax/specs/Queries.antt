@@ -5,7 +5,7 @@ use Rattle.pdw_lex.specs.declared.keyword.Keyword.TheVariants.{KwBy, KwFrom, KwG
 use Rattle.pdw_lex.specs.declared.sign.Sign.TheVariants.{Dot, Star}
 use Rattle.pdw_syntax.specs.Rule.{Rule, ◌>>=◌, ◌>>◌, ◌<$>◌, ◌or◌, pure, One, Maybe}
 use Rattle.pdw_syntax.specs.Lexemes.{key, sign, name, quantifier_of, direction_of, order_name_of}
-use Rattle.pdw_syntax.specs.Groups.{Groups}
+use Rattle.pdw_syntax.specs.Parentheses.{Parentheses}
 use Rattle.pdw_syntax.specs.Exprs.{listed, column_reference, expr}
 use Rattle.pdw_syntax.specs.Conds.{cond}
 use Rattle.pdw_syntax.specs.Tables.{called, tables}
@@ -37,7 +37,7 @@ order_key = do
 abbrev pub ordering : Rule (List OrderKey)
 ordering = (λ written. unwrap_or written []) <$> Maybe (key KwOrder >> key KwBy >> listed order_key)
 
-module _ (g : Groups) where
+module _ (g : Parentheses) where
   -- name . *, or expr [ [ AS ] name ]
   unfoldable pub item : Rule Item
   item =

@@ -5,7 +5,7 @@ use Rattle.pdw_lex.specs.declared.keyword.Keyword.TheVariants.{KwCreate, KwDisti
 use Rattle.pdw_lex.specs.declared.sign.Sign.TheVariants.{Comma, Equal}
 use Rattle.pdw_syntax.specs.Rule.{Rule, ◌>>=◌, ◌>>◌, ◌<$>◌, ◌or◌, pure, One, Maybe, Many, Enclosed}
 use Rattle.pdw_syntax.specs.Lexemes.{key, sign, word, name, number, text, kind_of, cost_part_of}
-use Rattle.pdw_syntax.specs.Groups.{Groups}
+use Rattle.pdw_syntax.specs.Parentheses.{Parentheses}
 use Rattle.pdw_syntax.specs.Exprs.{listed}
 use Rattle.pdw_syntax.specs.Queries.{select}
 use Rattle.pdw_syntax.specs.declared.statement.Statement.{Statement}
@@ -96,7 +96,7 @@ cost_constant = do
   amount ← number
   pure (s.Cost part amount)
 
-module _ (g : Groups) where
+module _ (g : Parentheses) where
   abbrev pub explain : Rule Statement
   explain =
       (s.Explain <$> (word (codes "explain") >> select g))

@@ -3,7 +3,7 @@ use Rattle.std.specs.Prelude.{ℕ, List, Some, None}
 use Rattle.pdw_lex.specs.declared.keyword.Keyword.TheVariants.{KwAs, KwCross, KwInner, KwJoin, KwOn, KwOuter}
 use Rattle.pdw_syntax.specs.Rule.{Rule, ◌>>=◌, ◌>>◌, ◌<$>◌, ◌or◌, pure, One, Maybe, Many, Enclosed}
 use Rattle.pdw_syntax.specs.Lexemes.{key, name, outer_of}
-use Rattle.pdw_syntax.specs.Groups.{Groups}
+use Rattle.pdw_syntax.specs.Parentheses.{Parentheses}
 use Rattle.pdw_syntax.specs.Exprs.{listed}
 use Rattle.pdw_syntax.specs.Conds.{cond}
 use Rattle.pdw_syntax.specs.declared.query.JoinWord.{JoinWord}
@@ -21,7 +21,7 @@ called = Maybe (key KwAs) >> name
 abbrev pub join_word : Rule JoinWord
 join_word = (key KwInner >> pure Inner) or ((do side ← One outer_of; Maybe (key KwOuter); pure side) or pure Inner)
 
-module _ (g : Groups) where
+module _ (g : Parentheses) where
   -- name [ [ AS ] name ], or ( query ) [ AS ] name, or ( tableref )
   unfoldable pub primary : Rule Primary
   primary =

@@ -7,7 +7,7 @@ use Rattle.pdw_lex.specs.declared.token.Lexeme.{Lexeme}
 use Rattle.pdw_lex.specs.declared.token.Token.{Token}
 use Rattle.pdw_syntax.specs.Rule.{Rule, ◌>>=◌, ◌>>◌, pure, Many}
 use Rattle.pdw_syntax.specs.Lexemes.{sign}
-use Rattle.pdw_syntax.specs.Groups.{Groups, no_groups}
+use Rattle.pdw_syntax.specs.Parentheses.{Parentheses, no_parentheses}
 use Rattle.pdw_syntax.specs.Exprs.{listed, expr}
 use Rattle.pdw_syntax.specs.Conds.{cond}
 use Rattle.pdw_syntax.specs.Tables.{table_reference}
@@ -16,22 +16,22 @@ use Rattle.pdw_syntax.specs.Statements.{statement}
 use Rattle.pdw_syntax.specs.declared.statement.Statement.{Statement}
 
 -- what parentheses may hold, where these stand in the parentheses inside them
-abbrev pub groups_around : Groups → Groups
-groups_around g = record { star = sign Star; expr = expr g; exprs = listed (expr g); cond = cond g; query = query g; tables = table_reference g }
+abbrev pub parentheses_around : Parentheses → Parentheses
+parentheses_around g = record { star = sign Star; expr = expr g; exprs = listed (expr g); cond = cond g; query = query g; tables = table_reference g }
 
 -- what parentheses may hold where at most so many are open at a place
-unfoldable pub groups : ℕ → Groups
-groups zero = no_groups
-groups (suc n) = groups_around (groups n)
+unfoldable pub parentheses : ℕ → Parentheses
+parentheses zero = no_parentheses
+parentheses (suc n) = parentheses_around (parentheses n)
 
 -- { statement ; }
-abbrev pub script : Groups → Rule (List Statement)
+abbrev pub script : Parentheses → Rule (List Statement)
 script g = Many (statement g >>= (λ s. sign Semicolon >> pure s))
 
 -- the lexemes are a text of the grammar, and these are its statements
 pub record IsText (text : List Lexeme) (statements : List Statement) : Type 0 where
   pub levels : ℕ
-  pub spells : script (groups levels) text statements
+  pub spells : script (parentheses levels) text statements
 
 -- how many parentheses may be open at a place
 abbrev pub most_open : ℕ
@@ -43,4 +43,4 @@ pub record IsWritten (x : Statement) : Type 0 where
   pub tokens : List Token
   pub utf8 : IsUtf8 bytes
   pub lexes : Lexes 0 bytes tokens
-  pub spells : statement (groups most_open) (map (λ t. t.lexeme) tokens) x
+  pub spells : statement (parentheses most_open) (map (λ t. t.lexeme) tokens) x

@@ -1,6 +1,6 @@
 use Rattle.std.proofs.Common.{rules}
-use Rattle.pdw_parse.proofs.GroupReads.{stops_before, stops_inside, stops_after, closes}
-use Rattle.pdw_parse.proofs.groups.+group.Goals as goal
+use Rattle.pdw_parse.proofs.NestedReads.{stops_before, stops_inside, stops_after, closes}
+use Rattle.pdw_parse.proofs.parentheses.+enclosed.Goals as goal
 
 pub returns-in_err-open : goal.returns-in_err-open
 returns-in_err-open t c = search (rules, stops_before)

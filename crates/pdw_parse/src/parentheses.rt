@@ -13,7 +13,7 @@ use std::alloc::Global;
 impl<F: Fn(Global, &mut Tokens<'_>, usize, Wanted) -> Result<Content, Stop>> Grammar<F> {
     // What the parentheses hold.
     fn inner(&self, tokens: &mut Tokens<'_>, wanted: Wanted) -> Result<Content, Stop>
-        requires { Nests self.now.depth (F.pre self.now.group) (F.post self.now.group) }
+        requires { Nests self.now.depth (F.pre self.now.nested) (F.post self.now.nested) }
         ensures { Reads (inner_by (nested self.now.depth) wanted tokens.old) result tokens.new }
     {
         match wanted {
@@ -28,7 +28,7 @@ impl<F: Fn(Global, &mut Tokens<'_>, usize, Wanted) -> Result<Content, Stop>> Gra
 }
 
 // The parenthesis that opens, where `depth` more may be open, and how many more may be open inside.
-#[tactic(auto, using(crate::proofs::GroupReads::openings))]
+#[tactic(auto, using(crate::proofs::NestedReads::openings))]
 fn open(tokens: &mut Tokens<'_>, depth: usize) -> Result<usize, Stop>
     ensures reads { Reads (opening depth tokens.old) result tokens.new }
     ensures fewer { IfOk result (λ inside. inside < depth) }
@@ -44,7 +44,7 @@ fn open(tokens: &mut Tokens<'_>, depth: usize) -> Result<usize, Stop>
 }
 
 /// A pair of parentheses with what is wanted in it, where `depth` more may be open.
-pub fn group(
+pub fn enclosed(
     alloc: Global,
     tokens: &mut Tokens<'_>,
     depth: usize,
@@ -55,7 +55,7 @@ pub fn group(
     let rules = Grammar {
         alloc,
         depth: open(tokens, depth)?,
-        group,
+        nested: enclosed,
     };
     let content = rules.inner(tokens, wanted)?;
     tokens.take_sign(Sign::ParenClose)?;

@@ -7,7 +7,7 @@ use Rattle.pdw_syntax.specs.declared.query.Query.{Query}
 use Rattle.pdw_syntax.specs.declared.query.TableRef.{TableRef}
 
 -- the texts of each kind that parentheses may hold
-pub record Groups : Type 1 where
+pub record Parentheses : Type 1 where
   pub star : Rule (Unit {0})
   pub expr : Rule SqlExpr
   pub exprs : Rule (List SqlExpr)
@@ -16,5 +16,5 @@ pub record Groups : Type 1 where
   pub tables : Rule TableRef
 
 -- no parentheses
-abbrev pub no_groups : Groups
-no_groups = record { star = λ w a. ⊥; expr = λ w a. ⊥; exprs = λ w a. ⊥; cond = λ w a. ⊥; query = λ w a. ⊥; tables = λ w a. ⊥ }
+abbrev pub no_parentheses : Parentheses
+no_parentheses = record { star = λ w a. ⊥; expr = λ w a. ⊥; exprs = λ w a. ⊥; cond = λ w a. ⊥; query = λ w a. ⊥; tables = λ w a. ⊥ }
