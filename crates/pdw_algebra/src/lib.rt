@@ -14,4 +14,6 @@ pub use pdw_partial::{
     admitted_partials_add_up, final_of_partials_is_the_groups, partials_of_one_bag_are_admitted,
 };
 pub use schema::{schema_of, schema_over};
+pub use shape::columns_of;
 pub use tree::{MOST_LEAVES, Tree, the_limit_of_leaves_is_this};
+pub use types::{aggregate_kind, kind_at, scalar_kind};

@@ -22,4 +22,4 @@ pub use key::{GroupId, GroupKey};
 pub use laws::each_expression_stands_for_its_group;
 pub use op::Op;
 pub use sets::Side;
-pub use singles::group;
+pub use singles::group_with;

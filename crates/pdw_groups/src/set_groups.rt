@@ -8,7 +8,7 @@ ghost use Rattle.pdw_groups.specs.Sets as spec;
 use crate::joins::{joins, part_of};
 use crate::level::{has_set, only};
 use crate::sets::{Side, all_inside, part_columns};
-use crate::singles::group;
+use crate::singles::group_with;
 use crate::{Group, GroupId, GroupKey, Level};
 use pdw_algebra::schema_over;
 use pdw_base::{ColId, NoMemory};
@@ -42,7 +42,7 @@ fn set_group(
         block,
         leaves: mask,
     };
-    group(alloc, useful, key, schema, exprs)
+    group_with(alloc, useful, key, schema, exprs)
 }
 
 // Adds the group of a set where the level has it.

@@ -16,7 +16,7 @@ use sqlite_items::Items;
 use std::alloc::Global;
 
 /// A group with the interesting columns of its schema.
-pub fn group(
+pub fn group_with(
     alloc: Global,
     useful: &[ColId],
     key: GroupKey,
@@ -57,7 +57,7 @@ fn second_group(
     let mut exprs = Items::new(alloc);
     exprs.push(filter_expr(alloc, inside, side.group)?)?;
     let schema = side.schema.try_copy(alloc)?;
-    group(alloc, useful, key, schema, exprs)
+    group_with(alloc, useful, key, schema, exprs)
 }
 
 // Adds the second group of a leaf where conjuncts lie inside it, and answers the group of the leaf as a part by itself.
