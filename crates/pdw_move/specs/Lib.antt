@@ -1,2 +1,3 @@
 pub mod Move
+pub mod Cost
 pub mod Placed

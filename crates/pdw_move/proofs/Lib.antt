@@ -1,0 +1,4 @@
+-- what bounds a cost
+pub mod CostLemmas
+-- costs worked out by hand
+mod CostRows
