@@ -1,0 +1,4 @@
+pub mod Stats
+pub mod Measured
+pub mod Known
+pub mod Book
