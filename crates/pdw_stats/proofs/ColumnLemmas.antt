@@ -1,10 +1,10 @@
 -- Columns of the rows of some parts.
-use Rattle.std.proofs.Common.{◌≡◌, ℕ, ◌+◌, ◌<◌, ◌≤◌, List, [], ◌∷◌, ◌++◌, length, map, take, drop, get_or, refl, sym, ap, ◌∙◌, arith, sum_by, take-append-drop}
+use Rattle.std.proofs.Common.{◌≡◌, ℕ, ◌+◌, ◌<◌, ◌≤◌, List, [], ◌∷◌, ◌++◌, length, take, drop, get_or, sym, ap, ◌∙◌, arith, sum_by, take-append-drop}
 use Rattle.std.specs.List.{enumerate_from, flat_map}
 use Rattle.std.proofs.lemmas.List.{map-append}
 use Rattle.std.proofs.lemmas.List.Sums.{sum_by-append, sum_by-cons}
 use Rattle.std.proofs.lemmas.Grind.{flat_map-append}
-use Rattle.pdw_base.proofs.Steps.{drop-one_more, flat_map-one_more, map-one_more, take-one_more}
+use Rattle.pdw_base.proofs.Steps.{drop-one_more}
 use Rattle.pdw_catalog.specs.Table.{Row, value_at}
 use Rattle.pdw_stats.specs.Measured.{bytes_of, column_at}
 

@@ -6,3 +6,5 @@ pub mod DistinctLemmas
 pub mod ColumnLemmas
 -- the statistics of a sound appliance, and of equal bags
 pub mod MeasuredLemmas
+-- statistics worked out by hand
+mod MeasuredRows

@@ -1,9 +1,8 @@
 -- The statistics of a sound appliance are in their ranges, and those of equal bags are equal.
-use Rattle.std.proofs.Common.{◌≡◌, ℕ, zero, suc, ◌+◌, ◌*◌, ◌<◌, ◌≤◌, ◌==◌, Bool, true, false, List, [], ◌∷◌, ◌++◌, length, map, filter, max, Option, Some, IsSome, refl, sym, ap, ap₂, ◌∙◌, subst, arith, cond, sum_by, if◌then◌else◌}
+use Rattle.std.proofs.Common.{◌≡◌, ℕ, zero, suc, ◌*◌, ◌<◌, ◌≤◌, ◌==◌, Bool, true, false, List, [], ◌∷◌, ◌++◌, length, map, filter, max, Some, refl, sym, ap, ap₂, subst, arith, cond, sum_by, if◌then◌else◌}
 use Rattle.std.specs.Int.{div_ceil}
 use Rattle.std.specs.List.{AllByRecursion, enumerate_from, flat_map}
 use Rattle.std.specs.List.Sorted.{IsPermutation}
-use Rattle.std.specs.Set.{distinct_count, is_member}
 use Rattle.std.proofs.Math.Nat.{lt_of_mul-lt-mul_right}
 use Rattle.std.proofs.lemmas.Bool.Decides.{nat_tests}
 use Rattle.std.proofs.lemmas.Grind.{div_ceil_times}
@@ -101,26 +100,10 @@ few : (placing : Placing) → most_rows placing ≤ 1000000
 few (Hash column) = omega arith
 few Replicate = omega arith
 
-module _ (contents : Contents) (name : List ℕ) (table : Table) (sound : IsSound contents) (found : table_named name contents.tables ≡ Some table) where
-  stores : Stores contents.nodes table (bags_of name contents)
-  stores = Stores-found contents name sound table found
-
-  pub table_fits : AllByRecursion (FitsTable table.columns) (whole_of name contents)
-  table_fits =
-      subst (AllByRecursion (FitsTable table.columns)) (sym (whole_of-found contents name table found))
-      (whole_fits contents.nodes table (bags_of name contents) table.placing sound.nodes.0 stores.each_node stores.fits)
-
-  pub few_rows : length (whole_of name contents) ≤ 1000000
-  few_rows =
-      let whole = ap length (whole_of-found contents name table found) in
-      let limit = stores.limit in
-      let most = few table.placing in
-      omega arith
-
 -- ---- ranges
 
 module _ (columns : List Column) (rows : List Row) (fits : AllByRecursion (FitsTable columns) rows) (count : length rows ≤ 1000000) where
-  pub AreFewBytes-fitting : AreFewBytes rows
+  AreFewBytes-fitting : AreFewBytes rows
   AreFewBytes-fitting = λ place. let short = short_column columns rows place fits in omega arith
 
   ceil_in_range : (bytes n : ℕ) → 0 < n → bytes ≤ n * 1000 → div_ceil bytes n ≤ 1000
@@ -177,5 +160,29 @@ module _ (columns : List Column) (rows : List Row) (fits : AllByRecursion (FitsT
   columns_in_range [] = tt
   columns_in_range (one ∷ numbered) = (column_in_range one.1.kind one.0, columns_in_range numbered)
 
-  pub IsInRange-measured : IsInRange (measured columns rows)
+  IsInRange-measured : IsInRange (measured columns rows)
   IsInRange-measured = record { rows = omega arith; cols = columns_in_range (enumerate_from 0 columns) }
+
+-- ---- a table of a sound appliance
+
+module _ (contents : Contents) (name : List ℕ) (table : Table) (sound : IsSound contents) (found : table_named name contents.tables ≡ Some table) where
+  stores : Stores contents.nodes table (bags_of name contents)
+  stores = Stores-found contents name sound table found
+
+  table_fits : AllByRecursion (FitsTable table.columns) (whole_of name contents)
+  table_fits =
+      subst (AllByRecursion (FitsTable table.columns)) (sym (whole_of-found contents name table found))
+      (whole_fits contents.nodes table (bags_of name contents) table.placing sound.nodes.0 stores.each_node stores.fits)
+
+  few_rows : length (whole_of name contents) ≤ 1000000
+  few_rows =
+      let whole = ap length (whole_of-found contents name table found) in
+      let limit = stores.limit in
+      let most = few table.placing in
+      omega arith
+
+  pub AreFewBytes-whole_of : AreFewBytes (whole_of name contents)
+  AreFewBytes-whole_of = AreFewBytes-fitting table.columns (whole_of name contents) table_fits few_rows
+
+  pub IsInRange-whole_of : IsInRange (measured table.columns (whole_of name contents))
+  IsInRange-whole_of = IsInRange-measured table.columns (whole_of name contents) table_fits few_rows

@@ -1,5 +1,5 @@
 -- Statistics of a table: how many rows it has, and of each column how many different values, and how wide they are.
-use Rattle.std.specs.Prelude.{ℕ, ◌≤◌, List, map}
+use Rattle.std.specs.Prelude.{ℕ, ◌≤◌, map}
 use Rattle.std.specs.List.{AllByRecursion}
 use Rattle.pdw_base.specs.declared.value.Kind.{Kind}
 use Rattle.pdw_base.specs.declared.value.Kind.TheVariants as kind

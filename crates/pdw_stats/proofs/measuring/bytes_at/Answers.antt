@@ -1,5 +1,4 @@
-use Rattle.std.proofs.Common.{arith, ap, sym, ◌∙◌, sum_by, subst}
-use Rattle.pdw_stats.specs.Known.{AreFewBytes}
+use Rattle.std.proofs.Common.{arith, ap, sum_by}
 use Rattle.pdw_stats.specs.Measured.{bytes_of, column_at}
 use Rattle.pdw_stats.proofs.ColumnLemmas.{bytes-part}
 use Rattle.pdw_stats.proofs.measuring.bytes_at.Goals as goal

@@ -1,6 +1,4 @@
-use Rattle.std.proofs.Common.{arith, ap, sym, ◌∙◌}
-use Rattle.std.proofs.lemmas.List.{get_or_read}
-use Rattle.pdw_catalog.specs.Table.{value_at}
+use Rattle.std.proofs.Common.{arith, ap, ◌∙◌}
 use Rattle.pdw_stats.specs.Measured.{bytes_of}
 use Rattle.pdw_stats.proofs.ColumnLemmas.{bytes-row}
 use Rattle.pdw_stats.proofs.measuring.bytes_in.Goals as goal

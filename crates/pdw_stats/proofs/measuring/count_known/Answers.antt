@@ -3,7 +3,7 @@ use Rattle.std.proofs.lemmas.List.{map-append, take_all}
 use Rattle.pdw_base.proofs.Steps.{flat_map-one_more}
 use Rattle.pdw_catalog.specs.Table.{value_at}
 use Rattle.pdw_stats.specs.Known.{Sees}
-use Rattle.pdw_stats.specs.Measured.{column_at, known_values}
+use Rattle.pdw_stats.specs.Measured.{column_at}
 use Rattle.pdw_stats.proofs.ColumnLemmas.{all_rows}
 use Rattle.pdw_stats.proofs.DistinctLemmas.{Sees-append, length-seen}
 use Rattle.pdw_stats.proofs.measuring.count_known.Goals as goal

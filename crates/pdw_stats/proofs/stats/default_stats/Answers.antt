@@ -2,8 +2,6 @@ use Rattle.std.proofs.Common.{ap, ◌∙◌, sym, subst, map}
 use Rattle.std.proofs.lemmas.List.{take_all}
 use Rattle.pdw_stats.proofs.RangeLemmas.{IsInRange-usual_stats}
 use Rattle.pdw_stats.specs.Stats.{IsInRange, usual_width}
-use Rattle.pdw_stats.specs.declared.stats.ColStat.{ColStat}
-use Rattle.pdw_stats.specs.declared.stats.Stats.{Stats}
 use Rattle.pdw_stats.proofs.stats.default_stats.Goals as goal
 
 pub returns-clause-range : goal.returns-clause-range
