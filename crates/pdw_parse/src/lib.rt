@@ -1,17 +1,9 @@
 //! Statements of tokens.
 #![tactic(auto)]
 
-mod conds;
-mod exprs;
-mod grammar;
-mod lexemes;
-mod lists;
 mod parentheses;
 mod parser;
-mod queries;
 mod statements;
-mod tables;
-mod tokens;
 
 pub use parser::parse;
 pub use pdw_reading::{

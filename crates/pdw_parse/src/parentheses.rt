@@ -1,31 +1,15 @@
 //! Parentheses, and what they hold.
 
 ghost use Rattle.std.specs.Prelude.{◌≡◌, ◌<◌, IfOk};
-ghost use Rattle.pdw_reading.specs.Levels.{Nests, content_by, inner_by, nested, opening};
+ghost use Rattle.pdw_reading.specs.Levels.{content_by, nested, opening};
 ghost use Rattle.pdw_reading.specs.Reading.{Reads, closed};
 
-use crate::grammar::Grammar;
-use crate::tokens::Tokens;
 use pdw_lex::Sign;
+use pdw_queries::Queries;
 use pdw_reading::{Content, Stop, Wanted};
+use pdw_terms::Grammar;
+use pdw_tokens::Tokens;
 use std::alloc::Global;
-
-impl<F: Fn(Global, &mut Tokens<'_>, usize, Wanted) -> Result<Content, Stop>> Grammar<F> {
-    // What the parentheses hold.
-    fn inner(&self, tokens: &mut Tokens<'_>, wanted: Wanted) -> Result<Content, Stop>
-        requires { Nests self.now.depth (F.pre self.now.nested) (F.post self.now.nested) }
-        ensures { Reads (inner_by (nested self.now.depth) wanted tokens.old) result tokens.new }
-    {
-        match wanted {
-            Wanted::Expr => Ok(Content::Expr(self.expr(tokens)?)),
-            Wanted::Counted => Ok(Content::Counted(self.counted(tokens)?)),
-            Wanted::Operand => Ok(Content::Operand(self.operand(tokens)?)),
-            Wanted::Among => Ok(Content::Among(self.among(tokens)?)),
-            Wanted::Query => Ok(Content::Query(self.query(tokens)?)),
-            Wanted::Source => Ok(Content::Source(self.source(tokens)?)),
-        }
-    }
-}
 
 // The parenthesis that opens, where `depth` more may be open, and how many more may be open inside.
 #[tactic(auto, using(crate::proofs::NestedReads::openings))]
@@ -52,10 +36,12 @@ pub fn enclosed(
 ) -> Result<Content, Stop>
     ensures { Reads (content_by (nested depth) wanted tokens.old) result tokens.new }
 {
-    let rules = Grammar {
-        alloc,
-        depth: open(tokens, depth)?,
-        nested: enclosed,
+    let rules = Queries {
+        grammar: Grammar {
+            alloc,
+            depth: open(tokens, depth)?,
+            nested: enclosed,
+        },
     };
     let content = rules.inner(tokens, wanted)?;
     tokens.take_sign(Sign::ParenClose)?;

@@ -5,12 +5,11 @@ ghost use Rattle.pdw_reading.specs.Fault.{IsFault, begins_at};
 ghost use Rattle.pdw_reading.specs.Spells.{Spells};
 ghost use Rattle.pdw_reading.specs.Tokens.{lexemes};
 
-use crate::grammar::Grammar;
-use crate::parentheses::enclosed;
-use crate::tokens::Tokens;
+use crate::statements::script;
 use pdw_lex::Token;
-use pdw_reading::{MOST_OPEN, ParseError, Stop};
+use pdw_reading::{ParseError, Stop};
 use pdw_syntax::Statement;
+use pdw_tokens::Tokens;
 use sqlite_items::Items as ListOf;
 use std::alloc::Global;
 
@@ -31,12 +30,7 @@ pub fn parse(alloc: Global, tokens: &[Token], end: u32) -> Result<ListOf<Stateme
     ensures fault { IfErr result (λ e. IsFault tokens.now end e) }
 {
     let mut cursor = Tokens::new(tokens);
-    let rules = Grammar {
-        alloc,
-        depth: MOST_OPEN,
-        nested: enclosed,
-    };
-    match rules.script(&mut cursor) {
+    match script(alloc, &mut cursor) {
         Ok(statements) => Ok(statements),
         Err(Stop::Syntax) => Err(ParseError::Syntax {
             at: place(tokens, cursor.left(), end),

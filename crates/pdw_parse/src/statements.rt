@@ -1,20 +1,24 @@
 //! Statements and scripts.
 
-ghost use Rattle.pdw_syntax.specs.Lexemes.{name_of};
-ghost use Rattle.pdw_reading.specs.Levels.{Nests, nested};
+ghost use Rattle.std.specs.Prelude.{codes};
+ghost use Rattle.pdw_syntax.specs.Lexemes.{is_word, name_of};
+ghost use Rattle.pdw_syntax.specs.declared.statement.Statement.TheVariants.{CheckPlan};
+ghost use Rattle.pdw_reading.specs.Levels.{nested};
 ghost use Rattle.pdw_reading.specs.ReadExprs.{after_comma};
+ghost use Rattle.pdw_reading.specs.ReadQueries.{select as select_spec};
 ghost use Rattle.pdw_reading.specs.ReadStatements as spec;
-ghost use Rattle.pdw_reading.specs.Reading.{Reads, enclosed, many, take};
+ghost use Rattle.pdw_reading.specs.Reading.{Reads, and_then, enclosed as enclosed_spec, many as many_spec, pure, take};
+ghost use Rattle.pdw_reading.specs.declared.limit.TheConstants.{MOST_OPEN};
 
-use crate::grammar::Grammar;
-use crate::lexemes::{cost_part_of, kind_of};
-use crate::lists::first_and_rest;
-use crate::tokens::Tokens;
+use crate::parentheses::enclosed;
 use pdw_base::Str;
 use pdw_catalog::Column;
 use pdw_lex::{Keyword, Lexeme, Sign};
-use pdw_reading::{Content, Stop, Wanted};
-use pdw_syntax::Statement;
+use pdw_queries::Queries;
+use pdw_reading::{MOST_OPEN, Stop};
+use pdw_syntax::{Select, Statement};
+use pdw_terms::Grammar;
+use pdw_tokens::{Tokens, cost_part_of, first_and_rest, kind_of, many};
 use sqlite_items::Items as ListOf;
 use std::alloc::Global;
 use std::mem::drop;
@@ -57,18 +61,14 @@ fn column_after_comma(alloc: Global, tokens: &mut Tokens<'_>) -> Result<Option<C
     }
 }
 
-#[tactic(auto, using(crate::proofs::Turns::turns), unfolding(pdw_reading::specs::Reading::many))]
 fn columns_after_commas(alloc: Global, tokens: &mut Tokens<'_>) -> Result<ListOf<Column>, Stop>
-    ensures { Reads (many (after_comma spec.column) tokens.old) result tokens.new }
+    ensures { Reads (many_spec (after_comma spec.column) tokens.old) result tokens.new }
 {
-    let mut found = ListOf::new(alloc);
-    for _turn in 0..tokens.left() {
-        match column_after_comma(alloc, tokens)? {
-            Some(column) => found.push(column)?,
-            None => return Ok(found),
-        }
-    }
-    Ok(found)
+    many(
+        alloc,
+        tokens,
+        |tokens: &mut Tokens<'_>| column_after_comma(alloc, tokens),
+    )
 }
 
 // The columns of a table in their parentheses.
@@ -85,7 +85,7 @@ fn columns(alloc: Global, tokens: &mut Tokens<'_>) -> Result<ListOf<Column>, Sto
 
 // `( name )`
 fn enclosed_name(alloc: Global, tokens: &mut Tokens<'_>) -> Result<Str, Stop>
-    ensures { Reads (enclosed (take name_of) tokens.old) result tokens.new }
+    ensures { Reads (enclosed_spec (take name_of) tokens.old) result tokens.new }
 {
     tokens.take_sign(Sign::ParenOpen)?;
     let name = tokens.take_name(alloc)?;
@@ -116,7 +116,7 @@ fn distribution(alloc: Global, tokens: &mut Tokens<'_>) -> Result<Option<Str>, S
 
 // `( DISTRIBUTION = placing )`
 fn enclosed_distribution(alloc: Global, tokens: &mut Tokens<'_>) -> Result<Option<Str>, Stop>
-    ensures { Reads (enclosed spec.distribution tokens.old) result tokens.new }
+    ensures { Reads (enclosed_spec spec.distribution tokens.old) result tokens.new }
 {
     tokens.take_sign(Sign::ParenOpen)?;
     let hash = distribution(alloc, tokens)?;
@@ -201,21 +201,17 @@ fn statistics_after_comma(
     }
 }
 
-#[tactic(auto, using(crate::proofs::Turns::turns), unfolding(pdw_reading::specs::Reading::many))]
 fn statistics_after_commas(
     alloc: Global,
     tokens: &mut Tokens<'_>,
 ) -> Result<ListOf<(Str, i64, i64)>, Stop>
-    ensures { Reads (many (after_comma spec.column_statistics) tokens.old) result tokens.new }
+    ensures { Reads (many_spec (after_comma spec.column_statistics) tokens.old) result tokens.new }
 {
-    let mut found = ListOf::new(alloc);
-    for _turn in 0..tokens.left() {
-        match statistics_after_comma(alloc, tokens)? {
-            Some(column) => found.push(column)?,
-            None => return Ok(found),
-        }
-    }
-    Ok(found)
+    many(
+        alloc,
+        tokens,
+        |tokens: &mut Tokens<'_>| statistics_after_comma(alloc, tokens),
+    )
 }
 
 // What is said of a table after WITH.
@@ -277,105 +273,114 @@ fn setting(tokens: &mut Tokens<'_>) -> Result<Statement, Stop>
     }
 }
 
-impl<F: Fn(Global, &mut Tokens<'_>, usize, Wanted) -> Result<Content, Stop>> Grammar<F> {
-    #[tactic(auto, unfolding(pdw_reading::specs::ReadStatements::explain))]
-    fn explain(&self, tokens: &mut Tokens<'_>) -> Result<Statement, Stop>
-        requires { Nests self.now.depth (F.pre self.now.nested) (F.post self.now.nested) }
-        ensures { Reads (spec.explain (nested self.now.depth) tokens.old) result tokens.new }
-    {
-        tokens.take_word("explain")?;
-        if tokens.eat_word("json") {
-            Ok(Statement::ExplainJson(self.select(tokens)?))
-        } else {
-            Ok(Statement::Explain(self.select(tokens)?))
+// SELECT, where no parenthesis is open.
+fn select(alloc: Global, tokens: &mut Tokens<'_>) -> Result<Select, Stop>
+    ensures { Reads (select_spec (nested MOST_OPEN) tokens.old) result tokens.new }
+{
+    let rules = Queries {
+        grammar: Grammar {
+            alloc,
+            depth: MOST_OPEN,
+            nested: enclosed,
+        },
+    };
+    rules.select(tokens)
+}
+
+#[tactic(auto, unfolding(pdw_reading::specs::ReadStatements::explain))]
+fn explain(alloc: Global, tokens: &mut Tokens<'_>) -> Result<Statement, Stop>
+    ensures { Reads (spec.explain (nested MOST_OPEN) tokens.old) result tokens.new }
+{
+    tokens.take_word("explain")?;
+    if tokens.eat_word("json") {
+        Ok(Statement::ExplainJson(select(alloc, tokens)?))
+    } else {
+        Ok(Statement::Explain(select(alloc, tokens)?))
+    }
+}
+
+#[tactic(auto, unfolding(pdw_reading::specs::ReadStatements::profile))]
+fn profile(alloc: Global, tokens: &mut Tokens<'_>) -> Result<Statement, Stop>
+    ensures { Reads (spec.profile (nested MOST_OPEN) tokens.old) result tokens.new }
+{
+    tokens.take_word("profile")?;
+    Ok(Statement::Profile(select(alloc, tokens)?))
+}
+
+// CHECK PLAN of this file from the word FOR on.
+fn check_plan_for(alloc: Global, tokens: &mut Tokens<'_>, file: Str) -> Result<Statement, Stop>
+    ensures { Reads (and_then (take (is_word (codes "for")) tokens.old) (λ _ rest. and_then (select_spec (nested MOST_OPEN) rest) (λ select. pure (CheckPlan file select)))) result tokens.new }
+{
+    tokens.take_word("for")?;
+    let select = select(alloc, tokens)?;
+    Ok(Statement::CheckPlan { file, select })
+}
+
+#[tactic(auto, unfolding(pdw_reading::specs::ReadStatements::check_plan))]
+fn check_plan(alloc: Global, tokens: &mut Tokens<'_>) -> Result<Statement, Stop>
+    ensures { Reads (spec.check_plan (nested MOST_OPEN) tokens.old) result tokens.new }
+{
+    tokens.take_word("check")?;
+    tokens.take_word("plan")?;
+    let file = tokens.take_text(alloc)?;
+    check_plan_for(alloc, tokens, file)
+}
+
+// A statement that begins with this word, which is still to be taken.
+#[tactic(auto, unfolding(pdw_reading::specs::ReadStatements::worded))]
+fn worded(alloc: Global, tokens: &mut Tokens<'_>, word: &str) -> Result<Statement, Stop>
+    ensures { Reads (spec.worded (nested MOST_OPEN) word.now tokens.old) result tokens.new }
+{
+    match word {
+        "load" => load(alloc, tokens),
+        "explain" => explain(alloc, tokens),
+        "profile" => profile(alloc, tokens),
+        "check" => check_plan(alloc, tokens),
+        _ => Err(Stop::Syntax),
+    }
+}
+
+#[tactic(auto, unfolding(pdw_reading::specs::ReadStatements::statement))]
+fn statement(alloc: Global, tokens: &mut Tokens<'_>) -> Result<Statement, Stop>
+    ensures { Reads (spec.statement (nested MOST_OPEN) tokens.old) result tokens.new }
+{
+    match tokens.peek() {
+        Some(Lexeme::Key(Keyword::KwCreate)) => create(alloc, tokens),
+        Some(Lexeme::Key(Keyword::KwDrop)) => drop_table(alloc, tokens),
+        Some(Lexeme::Key(Keyword::KwUpdate)) => statistics(alloc, tokens),
+        Some(Lexeme::Key(Keyword::KwSet)) => setting(tokens),
+        Some(Lexeme::Key(Keyword::KwSelect)) => Ok(Statement::Select(select(alloc, tokens)?)),
+        Some(Lexeme::Name(word)) => worded(alloc, tokens, word.text()),
+        _ => Err(Stop::Syntax),
+    }
+}
+
+// The next statement with its semicolon, if the script goes on.
+#[tactic(auto, unfolding(pdw_reading::specs::ReadStatements::next_statement))]
+fn next_statement(alloc: Global, tokens: &mut Tokens<'_>) -> Result<Option<Statement>, Stop>
+    ensures { Reads (spec.next_statement (nested MOST_OPEN) tokens.old) result tokens.new }
+{
+    if tokens.peek().is_none() {
+        return Ok(None);
+    }
+    let statement = statement(alloc, tokens)?;
+    match tokens.take_sign(Sign::Semicolon) {
+        Ok(()) => Ok(Some(statement)),
+        Err(stop) => {
+            drop(statement);
+            Err(stop)
         }
     }
+}
 
-    #[tactic(auto, unfolding(pdw_reading::specs::ReadStatements::profile))]
-    fn profile(&self, tokens: &mut Tokens<'_>) -> Result<Statement, Stop>
-        requires { Nests self.now.depth (F.pre self.now.nested) (F.post self.now.nested) }
-        ensures { Reads (spec.profile (nested self.now.depth) tokens.old) result tokens.new }
-    {
-        tokens.take_word("profile")?;
-        Ok(Statement::Profile(self.select(tokens)?))
-    }
-
-    #[tactic(auto, unfolding(pdw_reading::specs::ReadStatements::check_plan))]
-    fn check_plan(&self, tokens: &mut Tokens<'_>) -> Result<Statement, Stop>
-        requires { Nests self.now.depth (F.pre self.now.nested) (F.post self.now.nested) }
-        ensures { Reads (spec.check_plan (nested self.now.depth) tokens.old) result tokens.new }
-    {
-        tokens.take_word("check")?;
-        tokens.take_word("plan")?;
-        let file = tokens.take_text(self.alloc)?;
-        tokens.take_word("for")?;
-        let select = self.select(tokens)?;
-        Ok(Statement::CheckPlan { file, select })
-    }
-
-    // A statement that begins with this word, which is still to be taken.
-    #[tactic(auto, unfolding(pdw_reading::specs::ReadStatements::worded))]
-    fn worded(&self, tokens: &mut Tokens<'_>, word: &str) -> Result<Statement, Stop>
-        requires { Nests self.now.depth (F.pre self.now.nested) (F.post self.now.nested) }
-        ensures { Reads (spec.worded (nested self.now.depth) word.now tokens.old) result tokens.new }
-    {
-        match word {
-            "load" => load(self.alloc, tokens),
-            "explain" => self.explain(tokens),
-            "profile" => self.profile(tokens),
-            "check" => self.check_plan(tokens),
-            _ => Err(Stop::Syntax),
-        }
-    }
-
-    #[tactic(auto, unfolding(pdw_reading::specs::ReadStatements::statement))]
-    fn statement(&self, tokens: &mut Tokens<'_>) -> Result<Statement, Stop>
-        requires { Nests self.now.depth (F.pre self.now.nested) (F.post self.now.nested) }
-        ensures { Reads (spec.statement (nested self.now.depth) tokens.old) result tokens.new }
-    {
-        match tokens.peek() {
-            Some(Lexeme::Key(Keyword::KwCreate)) => create(self.alloc, tokens),
-            Some(Lexeme::Key(Keyword::KwDrop)) => drop_table(self.alloc, tokens),
-            Some(Lexeme::Key(Keyword::KwUpdate)) => statistics(self.alloc, tokens),
-            Some(Lexeme::Key(Keyword::KwSet)) => setting(tokens),
-            Some(Lexeme::Key(Keyword::KwSelect)) => Ok(Statement::Select(self.select(tokens)?)),
-            Some(Lexeme::Name(word)) => self.worded(tokens, word.text()),
-            _ => Err(Stop::Syntax),
-        }
-    }
-
-    // The next statement with its semicolon, if the script goes on.
-    #[tactic(auto, unfolding(pdw_reading::specs::ReadStatements::next_statement))]
-    fn next_statement(&self, tokens: &mut Tokens<'_>) -> Result<Option<Statement>, Stop>
-        requires { Nests self.now.depth (F.pre self.now.nested) (F.post self.now.nested) }
-        ensures { Reads (spec.next_statement (nested self.now.depth) tokens.old) result tokens.new }
-    {
-        if tokens.peek().is_none() {
-            return Ok(None);
-        }
-        let statement = self.statement(tokens)?;
-        match tokens.take_sign(Sign::Semicolon) {
-            Ok(()) => Ok(Some(statement)),
-            Err(stop) => {
-                drop(statement);
-                Err(stop)
-            }
-        }
-    }
-
-    /// All statements of a script.
-    #[tactic(auto, using(crate::proofs::Turns::turns), unfolding(pdw_reading::specs::ReadStatements::script, pdw_reading::specs::Reading::many))]
-    pub fn script(&self, tokens: &mut Tokens<'_>) -> Result<ListOf<Statement>, Stop>
-        requires { Nests self.now.depth (F.pre self.now.nested) (F.post self.now.nested) }
-        ensures { Reads (spec.script (nested self.now.depth) tokens.old) result tokens.new }
-    {
-        let mut found = ListOf::new(self.alloc);
-        for _turn in 0..tokens.left() {
-            match self.next_statement(tokens)? {
-                Some(statement) => found.push(statement)?,
-                None => return Ok(found),
-            }
-        }
-        Ok(found)
-    }
+/// All statements of a script.
+#[tactic(auto, unfolding(pdw_reading::specs::ReadStatements::script))]
+pub fn script(alloc: Global, tokens: &mut Tokens<'_>) -> Result<ListOf<Statement>, Stop>
+    ensures { Reads (spec.script (nested MOST_OPEN) tokens.old) result tokens.new }
+{
+    many(
+        alloc,
+        tokens,
+        |tokens: &mut Tokens<'_>| next_statement(alloc, tokens),
+    )
 }

@@ -1,0 +1,8 @@
+//! FROM, queries and SELECT of tokens.
+#![tactic(auto)]
+
+mod queries;
+mod rules;
+mod tables;
+
+pub use rules::Queries;

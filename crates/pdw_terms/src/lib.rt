@@ -1,0 +1,8 @@
+//! Value expressions and conditions of tokens.
+#![tactic(auto)]
+
+mod conds;
+mod exprs;
+mod grammar;
+
+pub use grammar::Grammar;

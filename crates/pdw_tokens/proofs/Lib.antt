@@ -1,0 +1,2 @@
+-- a loop that reads texts one after the other
+mod Turns
