@@ -1,0 +1,3 @@
+pub mod Divisor
+pub mod Estimate
+pub mod Sizes
