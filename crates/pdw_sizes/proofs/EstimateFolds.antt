@@ -18,7 +18,7 @@ use Rattle.pdw_expr.specs.declared.scalar.Scalar.{Scalar}
 use Rattle.pdw_expr.specs.declared.scalar.Scalar.TheOpen.{Scalar-F}
 use Rattle.pdw_expr.specs.declared.scalar.Scalar.TheFolds.{fold-roll-Scalar}
 use Rattle.pdw_expr.specs.declared.scalar.Scalar.TheVariants as scalar
-use Rattle.pdw_memo.specs.Columns.{column_step}
+use Rattle.pdw_groups.specs.Columns.{column_step}
 use Rattle.pdw_sizes.specs.Divisor.{Side, column, compare_divisor, constant, divisor, divisor_step, side_by, side_of}
 use Rattle.pdw_sizes.specs.Estimate.{ColStats, Estimate, estimate, estimate_step, expression_width, literal_width, width_in, width_step}
 use Rattle.pdw_stats.specs.Book.{Book}

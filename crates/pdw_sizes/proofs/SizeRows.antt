@@ -20,9 +20,9 @@ use Rattle.pdw_expr.specs.declared.cond.Cond.{Cond}
 use Rattle.pdw_expr.specs.declared.cond.Cond.TheVariants as cond
 use Rattle.pdw_expr.specs.declared.scalar.Scalar.{Scalar}
 use Rattle.pdw_expr.specs.declared.scalar.Scalar.TheVariants as scalar
-use Rattle.pdw_memo.specs.Meaning.{exactly, partial_of}
+use Rattle.pdw_groups.specs.Meaning.{exactly, partial_of}
 use Rattle.pdw_sizes.proofs.EstimateFolds.{divisor-sides, estimate-block, estimate-filter, estimate-group, estimate-join, estimate-project, estimate-scan, expression_width-literal, side_of-column, side_of-literal}
-use Rattle.pdw_memo.specs.Columns.{partial_schema}
+use Rattle.pdw_groups.specs.Columns.{partial_schema}
 use Rattle.pdw_sizes.specs.Divisor.{column, constant, divisor}
 use Rattle.pdw_sizes.specs.Estimate.{ColStats, Estimate, aggregate_columns, both_columns, distinct_in, distinct_of, divided, estimate, estimate_step, join_rows, key_rows, leaf_columns, rows_left, rows_of_tree, times, width_in, width_of_column}
 use Rattle.pdw_sizes.specs.Sizes.{partial_rows, size_of_meaning, width_of_schema}

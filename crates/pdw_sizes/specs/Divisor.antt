@@ -8,7 +8,7 @@ use Rattle.pdw_expr.specs.declared.cond.Cond.{Cond}
 use Rattle.pdw_expr.specs.declared.cond.Cond.TheOpen.{Cond-F}
 use Rattle.pdw_expr.specs.declared.cond.Cond.TheFolds.{fold-Cond}
 use Rattle.pdw_expr.specs.declared.scalar.Scalar.{Scalar}
-use Rattle.pdw_memo.specs.Columns.{column_alone}
+use Rattle.pdw_groups.specs.Columns.{column_alone}
 
 -- one side of a comparison: the column that it is, or an expression without columns, or any other
 pub data Side : Type 0 where

@@ -6,8 +6,8 @@ use Rattle.pdw_algebra.specs.Shape.{columns_of}
 use Rattle.pdw_base.specs.Schema.{Columns}
 use Rattle.pdw_base.specs.declared.schema.ColId.{ColId}
 use Rattle.pdw_catalog.specs.Catalog.{Tables}
-use Rattle.pdw_memo.specs.Columns.{partial_schema}
-use Rattle.pdw_memo.specs.Meaning.{Meaning, exactly, partial_of}
+use Rattle.pdw_groups.specs.Columns.{partial_schema}
+use Rattle.pdw_groups.specs.Meaning.{Meaning, exactly, partial_of}
 use Rattle.pdw_sizes.specs.Estimate.{ColStats, aggregate_columns, estimate, key_rows, width_in}
 use Rattle.pdw_sizes.specs.declared.size.Size.{Size}
 use Rattle.pdw_stats.specs.Book.{Book}
