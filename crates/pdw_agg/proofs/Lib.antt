@@ -1,0 +1,2 @@
+-- what aggregates keep of values, one value more
+pub mod RunningLemmas

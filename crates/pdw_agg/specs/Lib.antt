@@ -1,0 +1,4 @@
+pub mod Columns
+pub mod Running
+pub mod Stage
+pub mod Grouping

@@ -1,0 +1,6 @@
+//! Local aggregation: groups of rows, their partial rows, and groups that are finished from partial rows.
+#![tactic(auto)]
+
+mod cells;
+mod running;
+mod stage;
