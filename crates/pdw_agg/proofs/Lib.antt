@@ -1,2 +1,8 @@
 -- what aggregates keep of values, one value more
 pub mod RunningLemmas
+-- rows under their keys
+pub mod IndexLemmas
+-- lists of what rows stand for
+pub mod MapLemmas
+-- columns by their numbers alone
+pub mod NumberLemmas

@@ -2,5 +2,6 @@
 #![tactic(auto)]
 
 mod cells;
+mod columns;
 mod running;
 mod stage;
