@@ -6,3 +6,7 @@ pub mod IndexLemmas
 pub mod MapLemmas
 -- columns by their numbers alone
 pub mod NumberLemmas
+-- the rows of the three stages, and what positional rows stand for
+pub mod StageLemmas
+-- groups of positional rows
+pub mod GroupLemmas
