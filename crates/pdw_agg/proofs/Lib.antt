@@ -10,3 +10,5 @@ pub mod NumberLemmas
 pub mod StageLemmas
 -- groups of positional rows
 pub mod GroupLemmas
+-- partial rows, merged
+pub mod MergeLaws

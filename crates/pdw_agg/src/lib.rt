@@ -3,5 +3,8 @@
 
 mod cells;
 mod columns;
+mod laws;
 mod running;
 mod stage;
+
+pub use laws::{groupings_see_no_order, made_rows_read_back, merged_partials_are_the_groups};

@@ -1,0 +1,33 @@
+//! The laws, each the contract of a function.
+
+ghost use Rattle.std.specs.List.{AllByRecursion, flat_map};
+ghost use Rattle.std.specs.Prelude.{◌≡◌, ◌≢◌, List, [], map};
+ghost use Rattle.pdw_agg.specs.Columns.{final_schema, grouped_schema, partial_schema};
+ghost use Rattle.pdw_agg.specs.Grouping.{final_over, grouped_over, partial_over};
+ghost use Rattle.pdw_base.specs.SameBag.{SameBag};
+ghost use Rattle.pdw_base.specs.Schema.{Columns, cell};
+ghost use Rattle.pdw_base.specs.declared.schema.ColId.{ColId as Column};
+ghost use Rattle.pdw_base.specs.declared.value.Value.{Value as SqlValue};
+ghost use Rattle.pdw_expr.specs.Rows.{grouped};
+ghost use Rattle.pdw_expr.specs.declared.agg.Agg.{Agg as Aggregate};
+ghost use Rattle.pdw_partial.specs.Partial.{KeysApart, final_rows, partial_rows};
+
+/// What is merged from the sum of the partial rows of any one or more bags is what is grouped over their sum: each pair has a
+/// bag and its partial rows, in any order. No aggregate's column is a key.
+pub fn merged_partials_are_the_groups()
+    ensures { (keys : List Column) (aggs : List Aggregate) (columns : Columns) → KeysApart keys aggs → (pairs : List (List (List SqlValue) × List (List SqlValue))) → pairs ≢ [] → AllByRecursion (λ pair. SameBag pair.1 (partial_over keys aggs columns pair.0)) pairs → (input partials : List (List SqlValue)) → SameBag input (flat_map (λ pair. pair.0) pairs) → SameBag partials (flat_map (λ pair. pair.1) pairs) → final_over keys aggs (partial_schema keys aggs columns) partials ≡ grouped_over keys aggs columns input }
+{}
+
+/// The rows of equal bags give one list of rows: the order of the input plays no part.
+pub fn groupings_see_no_order()
+    ensures grouped { (keys : List Column) (aggs : List Aggregate) (columns : Columns) (rows others : List (List SqlValue)) → SameBag rows others → grouped_over keys aggs columns rows ≡ grouped_over keys aggs columns others }
+    ensures partials { (keys : List Column) (aggs : List Aggregate) (columns : Columns) (rows others : List (List SqlValue)) → SameBag rows others → partial_over keys aggs columns rows ≡ partial_over keys aggs columns others }
+    ensures finals { (keys : List Column) (aggs : List Aggregate) (columns : Columns) (rows others : List (List SqlValue)) → SameBag rows others → final_over keys aggs columns rows ≡ final_over keys aggs columns others }
+{}
+
+/// The rows that a grouping makes stand for the rows of its definition.
+pub fn made_rows_read_back()
+    ensures grouped { (keys : List Column) (aggs : List Aggregate) (columns : Columns) (rows : List (List SqlValue)) → map (cell (grouped_schema keys aggs columns)) (grouped_over keys aggs columns rows) ≡ grouped keys aggs (map (cell columns) rows) }
+    ensures partials { (keys : List Column) (aggs : List Aggregate) (columns : Columns) (rows : List (List SqlValue)) → map (cell (partial_schema keys aggs columns)) (partial_over keys aggs columns rows) ≡ partial_rows keys aggs (map (cell columns) rows) }
+    ensures finals { (keys : List Column) (aggs : List Aggregate) (columns : Columns) (rows : List (List SqlValue)) → map (cell (final_schema keys aggs columns)) (final_over keys aggs columns rows) ≡ final_rows keys aggs (map (cell columns) rows) }
+{}
