@@ -12,3 +12,5 @@ pub mod StageLemmas
 pub mod GroupLemmas
 -- partial rows, merged
 pub mod MergeLaws
+-- the kinds of values
+pub mod KindLemmas

@@ -4,3 +4,4 @@ pub mod Stage
 pub mod Grouping
 pub mod Index
 pub mod Made
+pub mod Fitting
