@@ -1,7 +1,5 @@
 -- what aggregates keep of values, one value more
 pub mod RunningLemmas
--- rows under their keys
-pub mod IndexLemmas
 -- lists of what rows stand for
 pub mod MapLemmas
 -- columns by their numbers alone
@@ -14,3 +12,5 @@ pub mod GroupLemmas
 pub mod MergeLaws
 -- the kinds of values
 pub mod KindLemmas
+-- made rows fit
+pub mod FitLemmas

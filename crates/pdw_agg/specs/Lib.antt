@@ -2,6 +2,5 @@ pub mod Columns
 pub mod Running
 pub mod Stage
 pub mod Grouping
-pub mod Index
 pub mod Made
 pub mod Fitting

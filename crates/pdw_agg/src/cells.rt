@@ -12,20 +12,14 @@ use crate::running::{again, alone, finished, joined, nothing};
 use crate::stage::Stage;
 use pdw_base::{ColId, NoMemory, Row, Schema, ValueRef};
 use pdw_expr::{Agg, Scalar, eval_scalar};
-use sqlite_items::at;
+use pdw_keys::value_at;
 use std::alloc::Global;
 
 // The value of a column, NULL where the row has none.
 fn column<'a>(c: ColId, s: &Schema, row: &'a Row) -> ValueRef<'a>
     ensures { owned result ≡ cell s.now row.now c }
 {
-    match s.place(c) {
-        Some(place) => match at(row.values(), place) {
-            Some(value) => value.as_ref(),
-            None => ValueRef::Null,
-        },
-        None => ValueRef::Null,
-    }
+    value_at(row.values(), s.place(c))
 }
 
 // The value of an aggregate's argument. COUNT of `*` has none: it counts rows.

@@ -3,8 +3,10 @@
 
 mod cells;
 mod columns;
+mod grouping;
 mod laws;
 mod running;
 mod stage;
 
+pub use grouping::{group, merge_final, partial};
 pub use laws::{groupings_see_no_order, made_rows_read_back, merged_partials_are_the_groups};

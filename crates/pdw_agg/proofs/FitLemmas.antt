@@ -1,0 +1,199 @@
+-- Made rows fit their schemas.
+use Rattle.std.proofs.Common.{◌≡◌, ◌==◌, ◌&&◌, ◌||◌, ℤ, zero, suc, ◌<◌, Bool, true, false, cond, All, List, [], ◌∷◌, ◌++◌, map, filter, Option, Some, None, is_some, refl, sym, ap, subst, ◌∙◌, if◌then◌else◌, true≢false, arith, eq-eqb, eqb-true, suc-le-suc}
+use Rattle.std.proofs.lemmas.List.Elements.{All-nil, All-cons, All-head, All-tail}
+use Rattle.std.proofs.lemmas.List.Sorted.{All-permutation}
+use Rattle.std.specs.List.{AllByRecursion, list_all, list_any}
+use Rattle.pdw_agg.proofs.KindLemmas.{AllOf, FitsEnv, cell-fits, fitted-Int, greatest-present, least-present, scalar-kind, summed-kind}
+use Rattle.pdw_agg.proofs.StageLemmas.{finals-rows, partials-rows, whole-rows}
+use Rattle.pdw_agg.specs.Columns.{final_kind, final_schema, grouped_schema, partial_kind, partial_schema}
+use Rattle.pdw_agg.specs.Fitting.{CanFinish, CanGroup, CanKeep, is_plain, keeps_plain}
+use Rattle.pdw_agg.specs.Grouping.{final_over, grouped_over, partial_over}
+use Rattle.pdw_agg.specs.Stage.{cell_value, made_row, made_rows, value_cells}
+use Rattle.pdw_agg.specs.declared.stage.Stage.{Stage}
+use Rattle.pdw_agg.specs.declared.stage.Stage.TheVariants.{Whole, Partial, Final}
+use Rattle.pdw_algebra.proofs.PlacedLemmas.{rising-schema}
+use Rattle.pdw_algebra.specs.Schema.{kind_at, rising}
+use Rattle.pdw_algebra.specs.Shape.{kind_or_int}
+use Rattle.pdw_algebra.specs.Types.{aggregate_kind, aggregate_kind_by, kind_over, scalar_kind}
+use Rattle.pdw_bag_laws.proofs.Groups.{column-≡}
+use Rattle.pdw_bag_laws.proofs.Keys.{same_row-itself, same_row-≡}
+use Rattle.pdw_base.proofs.SameBagLaws.{IsPermutation-from_SameBag, SameBag-sym}
+use Rattle.pdw_base.specs.SameBag.{SameBag}
+use Rattle.pdw_base.specs.Schema.{Columns, Env, FitsColumns, IsAscending, cell, row_over}
+use Rattle.pdw_base.specs.Value.{IsOfKind}
+use Rattle.pdw_base.specs.declared.schema.ColId.{ColId}
+use Rattle.pdw_base.specs.declared.value.Kind.{Kind}
+use Rattle.pdw_base.specs.declared.value.Kind.TheVariants as kind
+use Rattle.pdw_base.specs.declared.value.Value.{Value}
+use Rattle.pdw_base.specs.declared.value.Value.TheVariants.{Null, Int, Text, Wide}
+use Rattle.pdw_expr.specs.Aggregate.{final_value, least, partial_value, present}
+use Rattle.pdw_expr.specs.Env.{nulls, or_else}
+use Rattle.pdw_expr.specs.Parts.{each_once, groups, parts, same_row}
+use Rattle.pdw_expr.specs.Rows.{argument, first_row, key_cells, key_of}
+use Rattle.pdw_expr.specs.declared.agg.Agg.{Agg}
+use Rattle.pdw_expr.specs.declared.agg.AggKind.{AggKind}
+use Rattle.pdw_expr.specs.declared.agg.AggKind.TheVariants.{CountStar, Count, Sum, Min, Max}
+use Rattle.pdw_expr.specs.declared.scalar.Scalar.{Scalar}
+use Rattle.pdw_partial.specs.Partial.{KeysApart}
+
+-- ---- rows by the kinds of their columns
+
+abbrev Column : Type 0
+Column = ColId × Kind
+
+ascending-tail : (first : Column) (rest : Columns) → IsAscending (first ∷ rest) → IsAscending rest
+ascending-tail first rest ascending i j d less within = ascending (suc i) (suc j) d (suc-le-suc less) (suc-le-suc within)
+
+ascending-head : (first : Column) (rest : Columns) → IsAscending (first ∷ rest) → All (λ later. first.0.0 < later.0.0) rest
+ascending-head first rest ascending k d within = ascending 0 (suc k) d (omega arith) (suc-le-suc within)
+
+-- no column of greater numbers has the number
+none-beyond : (columns : Columns) (c : ColId) → All (λ later. c.0 < later.0.0) columns → kind_at columns c ≡ None
+none-beyond [] c greater = refl
+none-beyond (column ∷ columns) c greater =
+    by (column.0.0 == c.0) refl (none-beyond columns c (All-tail (λ later. c.0 < later.0.0) column columns greater))
+  where
+    by : (here : Bool) → (column.0.0 == c.0) ≡ here → kind_at columns c ≡ None → (if here then Some column.1 else kind_at columns c) ≡ None
+    by true here rest =
+        let less = All-head (λ later. c.0 < later.0.0) column columns greater in
+        let same = eqb-true _ _ here in
+        absurd (omega arith)
+    by false here rest = rest
+
+later-kind : (column : Column) (columns : Columns) → IsAscending (column ∷ columns) → (c : ColId) (k : Kind) → kind_at columns c ≡ Some k → kind_at (column ∷ columns) c ≡ Some k
+later-kind column columns ascending c k there = by (column.0.0 == c.0) refl
+  where
+    by : (here : Bool) → (column.0.0 == c.0) ≡ here → (if here then Some column.1 else kind_at columns c) ≡ Some k
+    by true here =
+        let none = subst (λ d. kind_at columns d ≡ None) (column-≡ column.0 c here) (none-beyond columns column.0 (ascending-head column columns ascending)) in
+        cc
+    by false here = there
+
+row-fits : (columns : Columns) (env : Env) → IsAscending columns → ((c : ColId) (k : Kind) → kind_at columns c ≡ Some k → IsOfKind k (env c)) → FitsColumns columns (row_over columns env)
+row-fits [] env ascending each = _
+row-fits (column ∷ columns) env ascending each = (
+  each column.0 column.1 (ap (λ here. if here then Some column.1 else kind_at columns column.0) (eq-eqb column.0.0 column.0.0 refl)),
+  row-fits columns env (ascending-tail column columns ascending) (λ c k there. each c k (later-kind column columns ascending c k there)),
+)
+
+-- ---- made rows
+
+or_else-Null : (v : Value) → or_else v Null ≡ v
+or_else-Null Null = refl
+or_else-Null (Int n) = refl
+or_else-Null (Text t) = refl
+or_else-Null (Wide n) = refl
+
+abbrev is_among : List ColId → ColId → Bool
+is_among keys c = list_any (λ key. key.0 == c.0) keys
+
+-- a column of a key is no aggregate's
+no-value : (stage : Stage) (keys : List ColId) (aggs : List Agg) → KeysApart keys aggs → (rows : List Env) (c : ColId) → is_among keys c ≡ true → value_cells stage aggs rows c ≡ Null
+no-value stage keys [] apart rows c among = refl
+no-value stage keys (agg ∷ aggs) apart rows c among = by (agg.out.0 == c.0) refl (no-value stage keys aggs apart.1 rows c among)
+  where
+    by : (is : Bool) → (agg.out.0 == c.0) ≡ is → value_cells stage aggs rows c ≡ Null → (if is then cell_value stage agg rows else value_cells stage aggs rows c) ≡ Null
+    by true is rest = absurd (true≢false (sym among ∙ ap (is_among keys) (sym (column-≡ agg.out c is)) ∙ apart.0))
+    by false is rest = rest
+
+module _ (columns : Columns) (own_kind : Agg → Kind) where
+  abbrev key_kind : ColId → Kind
+  key_kind c = kind_or_int (kind_at columns c)
+
+  abbrev key_columns : List ColId → Columns
+  key_columns keys = map (λ key. (key, key_kind key)) keys
+
+  abbrev own_columns : List Agg → Columns
+  own_columns aggs = map (λ agg. (agg.out, own_kind agg)) aggs
+
+  kind-key : (keys : List ColId) (rest : Columns) (c : ColId) → is_among keys c ≡ true → kind_at (key_columns keys ++ rest) c ≡ Some (key_kind c)
+  kind-key [] rest c among = absurd (true≢false (sym among))
+  kind-key (key ∷ keys) rest c among = by (key.0 == c.0) refl among (kind-key keys rest c)
+    where
+      by : (here : Bool) → (key.0 == c.0) ≡ here → (here || is_among keys c) ≡ true → (is_among keys c ≡ true → kind_at (key_columns keys ++ rest) c ≡ Some (key_kind c))
+          → (if here then Some (key_kind key) else kind_at (key_columns keys ++ rest) c) ≡ Some (key_kind c)
+      by true here among later = ap (λ d. Some (key_kind d)) (column-≡ key c here)
+      by false here among later = later among
+
+  kind-own : (keys : List ColId) (rest : Columns) (c : ColId) → is_among keys c ≡ false → kind_at (key_columns keys ++ rest) c ≡ kind_at rest c
+  kind-own [] rest c other = refl
+  kind-own (key ∷ keys) rest c other = by (key.0 == c.0) other (kind-own keys rest c)
+    where
+      by : (here : Bool) → (here || is_among keys c) ≡ false → (is_among keys c ≡ false → kind_at (key_columns keys ++ rest) c ≡ kind_at rest c)
+          → (if here then Some (key_kind key) else kind_at (key_columns keys ++ rest) c) ≡ kind_at rest c
+      by true other later = absurd (true≢false other)
+      by false other later = later other
+
+  module _ (stage : Stage) (keys : List ColId) (rows : List Env) (fits : AllByRecursion (FitsEnv columns) rows) where
+    -- each aggregate has a value of its column's kind
+    abbrev Values : List Agg → Type 0
+    Values aggs = AllByRecursion (λ agg. IsOfKind (own_kind agg) (cell_value stage agg rows)) aggs
+
+    own-kind : (aggs : List Agg) → Values aggs → (c : ColId) (k : Kind) → kind_at (own_columns aggs) c ≡ Some k → IsOfKind k (value_cells stage aggs rows c)
+    own-kind [] values c k there = cc
+    own-kind (agg ∷ aggs) values c k there = by (agg.out.0 == c.0) there (own-kind aggs values.1 c k)
+      where
+        by : (here : Bool) → (if here then Some (own_kind agg) else kind_at (own_columns aggs) c) ≡ Some k
+            → (kind_at (own_columns aggs) c ≡ Some k → IsOfKind k (value_cells stage aggs rows c))
+            → IsOfKind k (if here then cell_value stage agg rows else value_cells stage aggs rows c)
+        by true there later = let same : own_kind agg ≡ k = cc in subst (λ k. IsOfKind k (cell_value stage agg rows)) same values.0
+        by false there later = later there
+
+    first-kind : (c : ColId) → IsOfKind (key_kind c) (first_row rows c)
+    first-kind c = by rows fits
+      where
+        by : (rows : List Env) → AllByRecursion (FitsEnv columns) rows → IsOfKind (key_kind c) (first_row rows c)
+        by [] all = _
+        by (row ∷ rows) all = all.0 c
+
+    row-kind : (aggs : List Agg) → KeysApart keys aggs → Values aggs → (c : ColId) (k : Kind) → kind_at (key_columns keys ++ own_columns aggs) c ≡ Some k → IsOfKind k (made_row stage keys aggs rows c)
+    row-kind aggs apart values c k there = by (is_among keys c) refl
+      where
+        by : (among : Bool) → is_among keys c ≡ among → IsOfKind k (or_else (if among then first_row rows c else Null) (value_cells stage aggs rows c))
+        by true among =
+            let own = kind-key keys (own_columns aggs) c among in
+            let same : key_kind c ≡ k = cc in
+            subst (IsOfKind k) (sym (ap (or_else (first_row rows c)) (no-value stage keys aggs apart rows c among) ∙ or_else-Null (first_row rows c)))
+            (subst (λ k. IsOfKind k (first_row rows c)) same (first-kind c))
+        by false other = own-kind aggs values c k (sym (kind-own keys (own_columns aggs) c other) ∙ there)
+
+    made-fits : (aggs : List Agg) → KeysApart keys aggs → Values aggs
+        → FitsColumns (rising (key_columns keys ++ own_columns aggs)) (row_over (rising (key_columns keys ++ own_columns aggs)) (made_row stage keys aggs rows))
+    made-fits aggs apart values =
+        let schema = rising-schema (key_columns keys ++ own_columns aggs) in
+        row-fits (rising (key_columns keys ++ own_columns aggs)) (made_row stage keys aggs rows) schema.ascending
+        (λ c k there. row-kind aggs apart values c k (sym (schema.same c) ∙ there))
+
+  -- ---- the rows of all groups
+
+  abbrev AllFit : List Env → Type 0
+  AllFit rows = AllByRecursion (FitsEnv columns) rows
+
+  kept : (test : Env → Bool) (rows : List Env) → AllFit rows → AllFit (filter test rows)
+  kept test [] all = tt
+  kept test (row ∷ rows) all = by (test row) (kept test rows all.1)
+    where
+      by : (b : Bool) → AllFit (filter test rows) → AllFit (cond b (row ∷ filter test rows) (filter test rows))
+      by true rest = (all.0, rest)
+      by false rest = rest
+
+  groups-fit : {K : Type 0} (keys : List K) (key : Env → List Value) (rows : List Env) → AllFit rows → AllByRecursion AllFit (groups keys key rows)
+  groups-fit [] key rows all = (all, tt)
+  groups-fit (first ∷ rest) key rows all = each (each_once (map key rows))
+    where
+      each : (ks : List (List Value)) → AllByRecursion AllFit (map (λ k. filter (λ row. same_row (key row) k) rows) ks)
+      each [] = tt
+      each (k ∷ ks) = (kept (λ row. same_row (key row) k) rows all, each ks)
+
+  rows-fit : (stage : Stage) (keys : List ColId) (aggs : List Agg) → KeysApart keys aggs
+      → ((rows : List Env) → AllFit rows → AllByRecursion (λ agg. IsOfKind (own_kind agg) (cell_value stage agg rows)) aggs)
+      → (rows : List Env) → AllFit rows
+      → All (FitsColumns (rising (key_columns keys ++ own_columns aggs))) (map (row_over (rising (key_columns keys ++ own_columns aggs))) (made_rows stage keys aggs rows))
+  rows-fit stage keys aggs apart values rows all = each (groups keys (key_of keys) rows) (groups-fit keys (key_of keys) rows all)
+    where
+      each : (found : List (List Env)) → AllByRecursion AllFit found
+          → All (FitsColumns (rising (key_columns keys ++ own_columns aggs))) (map (row_over (rising (key_columns keys ++ own_columns aggs))) (map (made_row stage keys aggs) found))
+      each [] all = All-nil (FitsColumns (rising (key_columns keys ++ own_columns aggs)))
+      each (group ∷ found) all =
+          All-cons (FitsColumns (rising (key_columns keys ++ own_columns aggs))) (row_over (rising (key_columns keys ++ own_columns aggs)) (made_row stage keys aggs group)) _
+          (made-fits stage keys group all.0 aggs apart (values group all.0)) (each found all.1)
