@@ -14,7 +14,7 @@ use Rattle.pdw_agg.specs.declared.stage.Stage.TheVariants.{Whole, Partial, Final
 use Rattle.pdw_algebra.proofs.PlacedLemmas.{rising-schema}
 use Rattle.pdw_algebra.specs.Schema.{kind_at, rising}
 use Rattle.pdw_algebra.specs.Shape.{kind_or_int}
-use Rattle.pdw_algebra.specs.Types.{aggregate_kind, aggregate_kind_by, kind_over, scalar_kind}
+use Rattle.pdw_algebra.specs.Types.{aggregate_kind, aggregate_kind_by, is_number, kind_over, scalar_kind}
 use Rattle.pdw_bag_laws.proofs.Groups.{column-≡}
 use Rattle.pdw_bag_laws.proofs.Keys.{same_row-itself, same_row-≡}
 use Rattle.pdw_base.proofs.SameBagLaws.{IsPermutation-from_SameBag, SameBag-sym}
@@ -34,7 +34,7 @@ use Rattle.pdw_expr.specs.declared.agg.Agg.{Agg}
 use Rattle.pdw_expr.specs.declared.agg.AggKind.{AggKind}
 use Rattle.pdw_expr.specs.declared.agg.AggKind.TheVariants.{CountStar, Count, Sum, Min, Max}
 use Rattle.pdw_expr.specs.declared.scalar.Scalar.{Scalar}
-use Rattle.pdw_partial.specs.Partial.{KeysApart}
+use Rattle.pdw_partial.specs.Partial.{KeysApart, merged}
 
 -- ---- rows by the kinds of their columns
 
@@ -197,3 +197,139 @@ module _ (columns : Columns) (own_kind : Agg → Kind) where
       each (group ∷ found) all =
           All-cons (FitsColumns (rising (key_columns keys ++ own_columns aggs))) (row_over (rising (key_columns keys ++ own_columns aggs)) (made_row stage keys aggs group)) _
           (made-fits stage keys group all.0 aggs apart (values group all.0)) (each found all.1)
+
+-- ---- the values of aggregates
+
+final-Int : (v : Value) → IsOfKind kind.Wide v → IsOfKind kind.Int (final_value v)
+final-Int Null is = _
+final-Int (Int n) is = refl
+final-Int (Text t) is = cc
+final-Int (Wide n) is = fitted-Int n
+
+plain-final : (k : Kind) → is_plain (Some k) ≡ true → (v : Value) → IsOfKind k v → IsOfKind k (final_value v)
+plain-final k plain Null is = _
+plain-final k plain (Int n) is = is
+plain-final k plain (Text t) is = is
+plain-final k plain (Wide n) is = absurd (true≢false (sym plain ∙ ap (λ k. is_plain (Some k)) is))
+
+number-Int : (b : Bool) → kind_or_int (if b then Some kind.Int else None) ≡ kind.Int
+number-Int true = refl
+number-Int false = refl
+
+module _ (columns : Columns) where
+  values-all : (x : Scalar) (k : Kind) → scalar_kind columns x ≡ Some k → (rows : List Env) → AllByRecursion (FitsEnv columns) rows → AllOf k (map (argument (Some x)) rows)
+  values-all x k typed [] all = tt
+  values-all x k typed (row ∷ rows) all = (scalar-kind columns row all.0 x k typed, values-all x k typed rows all.1)
+
+  column-all : (c : ColId) (rows : List Env) → AllByRecursion (FitsEnv columns) rows → AllOf (kind_or_int (kind_at columns c)) (map (λ row. row c) rows)
+  column-all c [] all = tt
+  column-all c (row ∷ rows) all = (all.0 c, column-all c rows all.1)
+
+  module _ (rows : List Env) (fits : AllByRecursion (FitsEnv columns) rows) where
+    abbrev values : Option Scalar → List Value
+    values arg = map (argument arg) rows
+
+    abbrev KeptFits : AggKind → Option Scalar → Type 0
+    KeptFits kind arg = IsOfKind (kind_or_int (aggregate_kind_by columns kind arg)) (final_value (partial_value kind (values arg)))
+
+    whole-value : (kind : AggKind) (arg : Option Scalar) → is_plain (aggregate_kind_by columns kind arg) ≡ true → KeptFits kind arg
+    whole-value CountStar None plain = final-Int (partial_value CountStar (values None)) refl
+    whole-value CountStar (Some x) plain = final-Int (partial_value CountStar (values (Some x))) refl
+    whole-value Count None plain = final-Int (partial_value Count (values None)) refl
+    whole-value Count (Some x) plain =
+        subst (λ k. IsOfKind k (final_value (partial_value Count (values (Some x))))) (sym (number-Int (is_some (scalar_kind columns x))))
+        (final-Int (partial_value Count (values (Some x))) refl)
+    whole-value Sum None plain = final-Int (partial_value Sum (values None)) (summed-kind (present (values None)))
+    whole-value Sum (Some x) plain =
+        subst (λ k. IsOfKind k (final_value (partial_value Sum (values (Some x))))) (sym (number-Int (is_number (scalar_kind columns x))))
+        (final-Int (partial_value Sum (values (Some x))) (summed-kind (present (values (Some x)))))
+    whole-value Min None plain = absurd (true≢false (sym plain))
+    whole-value Max None plain = absurd (true≢false (sym plain))
+    whole-value Min (Some x) plain = by (scalar_kind columns x) refl plain
+      where
+        by : (k : Option Kind) → scalar_kind columns x ≡ k → is_plain k ≡ true → IsOfKind (kind_or_int k) (final_value (partial_value Min (values (Some x))))
+        by None typed plain = absurd (true≢false (sym plain))
+        by (Some k) typed plain = plain-final k plain (partial_value Min (values (Some x))) (least-present k (values (Some x)) (values-all x k typed rows fits))
+    whole-value Max (Some x) plain = by (scalar_kind columns x) refl plain
+      where
+        by : (k : Option Kind) → scalar_kind columns x ≡ k → is_plain k ≡ true → IsOfKind (kind_or_int k) (final_value (partial_value Max (values (Some x))))
+        by None typed plain = absurd (true≢false (sym plain))
+        by (Some k) typed plain = plain-final k plain (partial_value Max (values (Some x))) (greatest-present k (values (Some x)) (values-all x k typed rows fits))
+
+    partial-value : (kind : AggKind) (arg : Option Scalar) → is_some (aggregate_kind_by columns kind arg) ≡ true
+        → IsOfKind (partial_kind kind (kind_or_int (aggregate_kind_by columns kind arg))) (partial_value kind (values arg))
+    partial-value CountStar arg typed = refl
+    partial-value Count arg typed = refl
+    partial-value Sum arg typed = summed-kind (present (values arg))
+    partial-value Min None typed = absurd (true≢false (sym typed))
+    partial-value Max None typed = absurd (true≢false (sym typed))
+    partial-value Min (Some x) typed = by (scalar_kind columns x) refl typed
+      where
+        by : (k : Option Kind) → scalar_kind columns x ≡ k → is_some k ≡ true → IsOfKind (kind_or_int k) (partial_value Min (values (Some x)))
+        by None is typed = absurd (true≢false (sym typed))
+        by (Some k) is typed = least-present k (values (Some x)) (values-all x k is rows fits)
+    partial-value Max (Some x) typed = by (scalar_kind columns x) refl typed
+      where
+        by : (k : Option Kind) → scalar_kind columns x ≡ k → is_some k ≡ true → IsOfKind (kind_or_int k) (partial_value Max (values (Some x)))
+        by None is typed = absurd (true≢false (sym typed))
+        by (Some k) is typed = greatest-present k (values (Some x)) (values-all x k is rows fits)
+
+    abbrev read : ColId → List Value
+    read c = map (λ row. row c) rows
+
+    final-value : (kind : AggKind) (c : ColId) → keeps_plain kind (kind_at columns c) ≡ true
+        → IsOfKind (final_kind kind (kind_or_int (kind_at columns c))) (final_value (merged kind (read c)))
+    final-value CountStar c plain = final-Int (merged CountStar (read c)) refl
+    final-value Count c plain = final-Int (merged Count (read c)) refl
+    final-value Sum c plain = final-Int (merged Sum (read c)) (summed-kind (present (read c)))
+    final-value Min c plain = by (kind_at columns c) plain (column-all c rows fits)
+      where
+        by : (k : Option Kind) → is_plain k ≡ true → AllOf (kind_or_int k) (read c) → IsOfKind (kind_or_int k) (final_value (merged Min (read c)))
+        by None plain all = absurd (true≢false (sym plain))
+        by (Some k) plain all = plain-final k plain (merged Min (read c)) (least-present k (read c) all)
+    final-value Max c plain = by (kind_at columns c) plain (column-all c rows fits)
+      where
+        by : (k : Option Kind) → is_plain k ≡ true → AllOf (kind_or_int k) (read c) → IsOfKind (kind_or_int k) (final_value (merged Max (read c)))
+        by None plain all = absurd (true≢false (sym plain))
+        by (Some k) plain all = plain-final k plain (merged Max (read c)) (greatest-present k (read c) all)
+
+-- ---- the three stages
+
+both : (a b : Bool) → (a && b) ≡ true → (a ≡ true) × (b ≡ true)
+both true b hold = (refl, hold)
+both false b hold = absurd (true≢false (sym hold))
+
+each-typed : (test : Agg → Bool) (P : Agg → Type 0) → ((agg : Agg) → test agg ≡ true → P agg) → (aggs : List Agg) → list_all test aggs ≡ true → AllByRecursion P aggs
+each-typed test P each [] all = tt
+each-typed test P each (agg ∷ aggs) all = let split = both (test agg) (list_all test aggs) all in (each agg split.0, each-typed test P each aggs split.1)
+
+module _ (columns : Columns) where
+  envs-fit : (rows : List (List Value)) → All (FitsColumns columns) rows → AllByRecursion (FitsEnv columns) (map (cell columns) rows)
+  envs-fit [] all = tt
+  envs-fit (row ∷ rows) all = (cell-fits columns row (All-head (FitsColumns columns) row rows all), envs-fit rows (All-tail (FitsColumns columns) row rows all))
+
+  module _ (keys : List ColId) (aggs : List Agg) (rows : List (List Value)) where
+    pub grouped-fit : CanGroup keys aggs columns rows → All (FitsColumns (grouped_schema keys aggs columns)) (grouped_over keys aggs columns rows)
+    grouped-fit can =
+        subst (λ made. All (FitsColumns (grouped_schema keys aggs columns)) (map (row_over (grouped_schema keys aggs columns)) made)) (whole-rows keys aggs (map (cell columns) rows))
+        (rows-fit columns (λ agg. kind_or_int (aggregate_kind columns agg)) Whole keys aggs can.apart
+        (λ envs all. each-typed (λ agg. is_plain (aggregate_kind columns agg)) (λ agg. IsOfKind (kind_or_int (aggregate_kind columns agg)) (cell_value Whole agg envs)) (λ agg typed. whole-value columns envs all agg.kind agg.arg typed) aggs can.typed)
+        (map (cell columns) rows) (envs-fit rows can.fit))
+
+    pub partials-fit : CanKeep keys aggs columns rows → All (FitsColumns (partial_schema keys aggs columns)) (partial_over keys aggs columns rows)
+    partials-fit can =
+        subst (λ made. All (FitsColumns (partial_schema keys aggs columns)) (map (row_over (partial_schema keys aggs columns)) made)) (partials-rows keys aggs (map (cell columns) rows))
+        (rows-fit columns (λ agg. partial_kind agg.kind (kind_or_int (aggregate_kind columns agg))) Partial keys aggs can.apart
+        (λ envs all. each-typed (λ agg. is_some (aggregate_kind columns agg)) (λ agg. IsOfKind (partial_kind agg.kind (kind_or_int (aggregate_kind columns agg))) (cell_value Partial agg envs)) (λ agg typed. partial-value columns envs all agg.kind agg.arg typed) aggs can.typed)
+        (map (cell columns) rows) (envs-fit rows can.fit))
+
+    pub finals-fit : CanFinish keys aggs columns rows → All (FitsColumns (final_schema keys aggs columns)) (final_over keys aggs columns rows)
+    finals-fit can =
+        subst (λ made. All (FitsColumns (final_schema keys aggs columns)) (map (row_over (final_schema keys aggs columns)) made)) (finals-rows keys aggs (map (cell columns) rows))
+        (rows-fit columns (λ agg. final_kind agg.kind (kind_or_int (kind_at columns agg.out))) Final keys aggs can.apart
+        (λ envs all. each-typed (λ agg. keeps_plain agg.kind (kind_at columns agg.out)) (λ agg. IsOfKind (final_kind agg.kind (kind_or_int (kind_at columns agg.out))) (cell_value Final agg envs)) (λ agg typed. final-value columns envs all agg.kind agg.out typed) aggs can.typed)
+        (map (cell columns) rows) (envs-fit rows can.fit))
+
+-- rows of equal bags fit alike
+pub fit-alike : (columns : Columns) (rows others : List (List Value)) → SameBag rows others → All (FitsColumns columns) others → All (FitsColumns columns) rows
+fit-alike columns rows others same = All-permutation (FitsColumns columns) others rows (IsPermutation-from_SameBag same_row same_row-≡ same_row-itself others rows (SameBag-sym same))

@@ -14,3 +14,5 @@ pub mod MergeLaws
 pub mod KindLemmas
 -- made rows fit
 pub mod FitLemmas
+-- what the three functions make
+pub mod MadeLaws
