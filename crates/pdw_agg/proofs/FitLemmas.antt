@@ -1,5 +1,5 @@
 -- Made rows fit their schemas.
-use Rattle.std.proofs.Common.{◌≡◌, ◌==◌, ◌&&◌, ◌||◌, ℤ, zero, suc, ◌<◌, Bool, true, false, cond, All, List, [], ◌∷◌, ◌++◌, map, filter, Option, Some, None, is_some, refl, sym, ap, subst, ◌∙◌, if◌then◌else◌, true≢false, arith, eq-eqb, eqb-true, suc-le-suc}
+use Rattle.std.proofs.Common.{◌≡◌, ◌==◌, ◌&&◌, ◌||◌, suc, ◌<◌, Bool, true, false, cond, All, List, [], ◌∷◌, ◌++◌, map, filter, Option, Some, None, is_some, refl, sym, ap, subst, ◌∙◌, if◌then◌else◌, true≢false, arith, eq-eqb, eqb-true, suc-le-suc}
 use Rattle.std.proofs.lemmas.List.Elements.{All-nil, All-cons, All-head, All-tail}
 use Rattle.std.proofs.lemmas.List.Sorted.{All-permutation}
 use Rattle.std.specs.List.{AllByRecursion, list_all, list_any}
@@ -14,7 +14,7 @@ use Rattle.pdw_agg.specs.declared.stage.Stage.TheVariants.{Whole, Partial, Final
 use Rattle.pdw_algebra.proofs.PlacedLemmas.{rising-schema}
 use Rattle.pdw_algebra.specs.Schema.{kind_at, rising}
 use Rattle.pdw_algebra.specs.Shape.{kind_or_int}
-use Rattle.pdw_algebra.specs.Types.{aggregate_kind, aggregate_kind_by, is_number, kind_over, scalar_kind}
+use Rattle.pdw_algebra.specs.Types.{aggregate_kind, aggregate_kind_by, is_number, scalar_kind}
 use Rattle.pdw_bag_laws.proofs.Groups.{column-≡}
 use Rattle.pdw_bag_laws.proofs.Keys.{same_row-itself, same_row-≡}
 use Rattle.pdw_base.proofs.SameBagLaws.{IsPermutation-from_SameBag, SameBag-sym}
@@ -26,10 +26,10 @@ use Rattle.pdw_base.specs.declared.value.Kind.{Kind}
 use Rattle.pdw_base.specs.declared.value.Kind.TheVariants as kind
 use Rattle.pdw_base.specs.declared.value.Value.{Value}
 use Rattle.pdw_base.specs.declared.value.Value.TheVariants.{Null, Int, Text, Wide}
-use Rattle.pdw_expr.specs.Aggregate.{final_value, least, partial_value, present}
-use Rattle.pdw_expr.specs.Env.{nulls, or_else}
-use Rattle.pdw_expr.specs.Parts.{each_once, groups, parts, same_row}
-use Rattle.pdw_expr.specs.Rows.{argument, first_row, key_cells, key_of}
+use Rattle.pdw_expr.specs.Aggregate.{final_value, partial_value, present}
+use Rattle.pdw_expr.specs.Env.{or_else}
+use Rattle.pdw_expr.specs.Parts.{each_once, groups, same_row}
+use Rattle.pdw_expr.specs.Rows.{argument, first_row, key_of}
 use Rattle.pdw_expr.specs.declared.agg.Agg.{Agg}
 use Rattle.pdw_expr.specs.declared.agg.AggKind.{AggKind}
 use Rattle.pdw_expr.specs.declared.agg.AggKind.TheVariants.{CountStar, Count, Sum, Min, Max}

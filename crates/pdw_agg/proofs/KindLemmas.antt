@@ -1,7 +1,7 @@
 -- The kinds of values: expressions and aggregates over rows that fit.
-use Rattle.std.proofs.Common.{◌≡◌, ◌==◌, ◌&&◌, ℤ, pos, Bool, true, false, cond, not, leb, length, List, [], ◌∷◌, map, fold, Option, Some, None, refl, sym, ap, subst, ◌∙◌, if◌then◌else◌, true≢false}
+use Rattle.std.proofs.Common.{◌≡◌, ◌==◌, ◌&&◌, ℤ, pos, Bool, true, false, cond, not, leb, length, List, [], ◌∷◌, map, fold, Option, Some, None, refl, sym, ap, subst, ◌∙◌, if◌then◌else◌}
 use Rattle.std.specs.Prelude.{◌-ℤ◌, ◌*ℤ◌, ◌+ℤ◌, int_div, int_rem, neg_ℤ}
-use Rattle.std.specs.List.{AllByRecursion, list_all}
+use Rattle.std.specs.List.{AllByRecursion}
 use Rattle.std.specs.Ordering.{int_eq, is_gt, is_lt}
 use Rattle.pdw_algebra.specs.Schema.{kind_at}
 use Rattle.pdw_algebra.specs.Shape.{kind_or_int}

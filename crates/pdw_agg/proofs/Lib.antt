@@ -16,3 +16,5 @@ pub mod KindLemmas
 pub mod FitLemmas
 -- what the three functions make
 pub mod MadeLaws
+-- small rows worked out by hand
+pub mod Rows

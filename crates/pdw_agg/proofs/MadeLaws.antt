@@ -1,5 +1,5 @@
 -- What the three functions make.
-use Rattle.std.proofs.Common.{◌≡◌, All, List, map, refl, ap, ◌∙◌}
+use Rattle.std.proofs.Common.{All, List, map, refl, ap, ◌∙◌}
 use Rattle.pdw_agg.proofs.FitLemmas.{finals-fit, fit-alike, grouped-fit, partials-fit}
 use Rattle.pdw_agg.proofs.GroupLemmas.{rows_of-made}
 use Rattle.pdw_agg.proofs.NumberLemmas.{row_over-made}

@@ -1,10 +1,10 @@
 -- The laws of positional partial rows.
-use Rattle.std.proofs.Common.{◌≡◌, ◌≢◌, List, [], ◌∷◌, ◌++◌, map, refl, sym, ap, ap₂, subst, ◌∙◌}
+use Rattle.std.proofs.Common.{◌≡◌, ◌≢◌, List, [], ◌∷◌, ◌++◌, map, refl, sym, ap, subst, ◌∙◌}
 use Rattle.std.proofs.lemmas.List.{map-append}
 use Rattle.std.specs.List.{AllByRecursion, flat_map}
 use Rattle.pdw_agg.proofs.NumberLemmas.{row_over-made}
 use Rattle.pdw_agg.proofs.StageLemmas.{finals-rows, partials-rows, read_rows, whole-rows}
-use Rattle.pdw_agg.specs.Columns.{final_column, final_kind, final_schema, grouped_schema, partial_column, partial_kind, partial_schema}
+use Rattle.pdw_agg.specs.Columns.{final_column, final_kind, final_schema, grouped_schema, partial_kind, partial_schema}
 use Rattle.pdw_agg.specs.Grouping.{final_over, grouped_over, partial_over}
 use Rattle.pdw_agg.specs.declared.stage.Stage.TheVariants.{Whole, Partial, Final}
 use Rattle.pdw_algebra.specs.Schema.{kind_at}

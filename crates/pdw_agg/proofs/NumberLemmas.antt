@@ -7,7 +7,6 @@ use Rattle.pdw_algebra.specs.Schema.{placed, rising}
 use Rattle.pdw_base.specs.Schema.{Columns, Env, row_over}
 use Rattle.pdw_base.specs.declared.schema.ColId.{ColId}
 use Rattle.pdw_base.specs.declared.value.Kind.{Kind}
-use Rattle.pdw_base.specs.declared.value.Value.{Value}
 use Rattle.pdw_expr.specs.declared.agg.Agg.{Agg}
 
 abbrev number_of : ColId × Kind → ColId

@@ -1,5 +1,5 @@
 -- The rows of the three stages are those of the definitions, and positional rows stand for them.
-use Rattle.std.proofs.Common.{◌≡◌, ◌==◌, ◌||◌, Bool, true, false, List, [], ◌∷◌, ◌++◌, map, Some, None, refl, sym, ap, ap₂, ◌∙◌, eqb-true, if◌then◌else◌}
+use Rattle.std.proofs.Common.{◌≡◌, ◌==◌, ◌||◌, Bool, true, false, List, [], ◌∷◌, ◌++◌, map, Some, None, refl, sym, ap, ◌∙◌, eqb-true, if◌then◌else◌}
 use Rattle.std.specs.List.{list_any}
 use Rattle.pdw_agg.proofs.MapLemmas.{map-after}
 use Rattle.pdw_agg.specs.Stage.{cell_value, made_row, made_rows, value_cells}
@@ -10,7 +10,6 @@ use Rattle.pdw_algebra.specs.Schema.{kind_at, rising}
 use Rattle.pdw_base.specs.Schema.{Columns, Env, cell, row_over}
 use Rattle.pdw_base.specs.declared.schema.ColId.{ColId}
 use Rattle.pdw_base.specs.declared.value.Kind.{Kind}
-use Rattle.pdw_base.specs.declared.value.Value.{Value}
 use Rattle.pdw_base.specs.declared.value.Value.TheVariants.{Null}
 use Rattle.pdw_expr.specs.Env.{or_else}
 use Rattle.pdw_expr.specs.Parts.{groups}

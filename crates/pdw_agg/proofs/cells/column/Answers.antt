@@ -1,4 +1,4 @@
-use Rattle.std.proofs.Common.{ap, ap₂, ◌∙◌}
+use Rattle.std.proofs.Common.{ap₂, ◌∙◌}
 use Rattle.pdw_keys.proofs.PlaceLaws.{value_at-cell}
 use Rattle.pdw_keys.specs.Places.{value_at}
 use Rattle.pdw_agg.proofs.cells.column.Goals as goal

@@ -1,6 +1,5 @@
 use Rattle.std.proofs.Common.{List, [], ◌∷◌, ◌++◌, map, ap, ◌∙◌}
 use Rattle.pdw_agg.proofs.GroupLemmas.{behind}
-use Rattle.pdw_agg.specs.Made.{row_of}
 use Rattle.pdw_agg.specs.Stage.{made_row}
 use Rattle.pdw_base.specs.Schema.{Env, cell, row_over}
 use Rattle.pdw_base.specs.declared.value.Value.{Value}

@@ -1,4 +1,4 @@
-use Rattle.std.proofs.Common.{List, [], ◌∷◌, ◌++◌, map, sym, ap, ap₂, ◌∙◌}
+use Rattle.std.proofs.Common.{List, [], ◌∷◌, ◌++◌, map, sym, ap, ◌∙◌}
 use Rattle.pdw_agg.proofs.GroupLemmas.{behind, none-more, one-more}
 use Rattle.pdw_agg.specs.Made.{row_of}
 use Rattle.pdw_agg.specs.Stage.{made_row}
@@ -14,11 +14,11 @@ loop-place-preserved c =
     let of_part : List (List Value) → List Value = row_of c.args.made.now c.args.stage c.args.keys.now c.args.aggs.now columns in
     let parts : List (List (List Value)) = map (λ entry. entry.1) c.args.index.now in
     elim c.match-part.branch [
-      in-Some+in_ok-made_row-in-Some+in_ok-push-in-Some w ↦
-        one-more of_part parts c.loop-place.place c.loop-place.bag c.loop-place.invariant (map (λ row. row.now) w.in-Some.part.now.items) c.match-part.bag
-        (sym w.in-Some.ensures)
-        (w.bag-is ∙ w.in_ok-push-in-Some.ensures.ok ∙ ap (λ row. c.loop-place.bag ++ row ∷ []) (w.in_ok-made_row-in-Some.ensures ∙ ap of_rows (behind columns w.as_slice.result.now) ∙ ap (λ rows. of_rows (map (cell columns) (map (λ row. row.now) rows))) w.as_slice.ensures.value))
-    | in-None w ↦
-        let before = none-more of_part parts c.loop-place.place c.loop-place.bag c.loop-place.invariant (sym w.in-None.ensures) in
-        w.bag-is ∙ before
+      | in-Some+in_ok-made_row-in-Some+in_ok-push-in-Some w ↦
+          one-more of_part parts c.loop-place.place c.loop-place.bag c.loop-place.invariant (map (λ row. row.now) w.in-Some.part.now.items) c.match-part.bag
+          (sym w.in-Some.ensures)
+          (w.bag-is ∙ w.in_ok-push-in-Some.ensures.ok ∙ ap (λ row. c.loop-place.bag ++ row ∷ []) (w.in_ok-made_row-in-Some.ensures ∙ ap of_rows (behind columns w.as_slice.result.now) ∙ ap (λ rows. of_rows (map (cell columns) (map (λ row. row.now) rows))) w.as_slice.ensures.value))
+      | in-None w ↦
+          let before = none-more of_part parts c.loop-place.place c.loop-place.bag c.loop-place.invariant (sym w.in-None.ensures) in
+          w.bag-is ∙ before
     ]
