@@ -1,4 +1,3 @@
-pub mod Relation
 pub mod Names
 pub mod Plain
 pub mod Prepared

@@ -2,20 +2,9 @@
 #![tactic(auto)]
 
 mod answer;
-mod cells;
-mod columns;
-mod filters;
-mod groups;
-mod interpreter;
-mod joins;
 mod order;
-mod pairs;
-mod partners;
 mod prepared;
-mod projection;
 mod refusal;
-mod relation;
-mod scans;
 mod select;
 mod session;
 

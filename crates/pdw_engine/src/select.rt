@@ -4,19 +4,17 @@ ghost use Rattle.std.specs.Prelude.{◌≡◌, IfOk, map};
 ghost use Rattle.pdw_base.specs.Schema.{cell};
 ghost use Rattle.pdw_catalog.specs.Database.{undivided};
 ghost use Rattle.pdw_engine.specs.Selected.{SelectedBy};
-ghost use Rattle.pdw_engine.specs.Relation.{environments};
+ghost use Rattle.pdw_interpreter.specs.Relation.{environments};
 ghost use Rattle.pdw_expr.specs.Rows.{key_of};
 ghost use Rattle.pdw_form.specs.Numbered.{outs_of};
 
 use crate::answer::Table1;
-use crate::cells::column;
-use crate::interpreter::rows_of;
 use crate::order::ordered;
-use crate::relation::Relation;
 use pdw_base::{NoMemory, Row, Str};
 use pdw_bind::bind;
 use pdw_catalog::Appliance;
 use pdw_form::{JItem, JudgedSelect};
+use pdw_interpreter::{Relation, column, rows_of};
 use sqlite_items::Items;
 use std::alloc::Global;
 

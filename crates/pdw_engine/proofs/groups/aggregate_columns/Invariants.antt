@@ -1,6 +1,0 @@
-use Rattle.std.proofs.Common.{◌≡◌, map, take}
-use Rattle.pdw_engine.specs.Relation as spec
-use Rattle.pdw_engine.proofs.groups.aggregate_columns.Given as goal
-
-abbrev pub invariant-loop-agg : goal.invariant-loop-agg
-invariant-loop-agg l = l.columns.items ≡ map (λ agg. spec.numbered agg.out) (take l.agg-index l.aggs)

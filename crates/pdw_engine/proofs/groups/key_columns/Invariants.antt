@@ -1,6 +1,0 @@
-use Rattle.std.proofs.Common.{◌≡◌, map, take}
-use Rattle.pdw_engine.specs.Relation as spec
-use Rattle.pdw_engine.proofs.groups.key_columns.Given as goal
-
-abbrev pub invariant-loop-key : goal.invariant-loop-key
-invariant-loop-key l = l.columns.items ≡ map spec.numbered (take l.key-index l.keys)

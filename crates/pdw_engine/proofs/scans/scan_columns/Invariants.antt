@@ -1,6 +1,0 @@
-use Rattle.std.proofs.Common.{◌≡◌, map, take}
-use Rattle.pdw_engine.specs.Relation as spec
-use Rattle.pdw_engine.proofs.scans.scan_columns.Given as goal
-
-abbrev pub invariant-loop-col : goal.invariant-loop-col
-invariant-loop-col l = l.columns.items ≡ map (λ col. spec.numbered col.0) (take l.col-index l.cols)
