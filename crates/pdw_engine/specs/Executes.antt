@@ -14,7 +14,7 @@ use Rattle.pdw_engine.specs.declared.refusal.Refusal.{Refusal}
 use Rattle.pdw_engine.specs.declared.refusal.Refusal.TheVariants as refusal
 use Rattle.pdw_engine.specs.declared.refusal.Stop.{Stop}
 use Rattle.pdw_engine.specs.declared.refusal.Stop.TheVariants.{Refused, Memory}
-use Rattle.pdw_engine.specs.declared.session.TheConstants.{MOST_FILE_BYTES}
+use Rattle.pdw_base.specs.declared.limits.TheConstants.{MOST_FILE_BYTES}
 use Rattle.pdw_load.specs.Records.{faults_of, records_of, rows_of}
 use Rattle.pdw_load.specs.declared.load_error.LoadError.{LoadError}
 use Rattle.pdw_semantics.specs.Answer.{IsLawful}

@@ -11,4 +11,4 @@ mod session;
 pub use answer::{Answer, Table1};
 pub use prepared::{Prepared, Want};
 pub use refusal::{Refusal, Stop};
-pub use session::{MOST_FILE_BYTES, Session};
+pub use session::Session;

@@ -30,9 +30,6 @@ use pdw_walk::JudgeFault;
 use std::alloc::Global;
 use std::marker::Model;
 
-/// The greatest length of a file that a statement reads, in bytes.
-pub const MOST_FILE_BYTES: usize = 67_108_864;
-
 /// An appliance and what is executed over it.
 #[derive(Drop)]
 pub struct Session {

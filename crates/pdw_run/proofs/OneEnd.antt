@@ -13,7 +13,7 @@ use Rattle.pdw_engine.specs.Prepared.{Prepares, RefusesFirst, wanted}
 use Rattle.pdw_engine.specs.declared.answer.Answer.{Answer}
 use Rattle.pdw_engine.specs.declared.refusal.Refusal.{Refusal}
 use Rattle.pdw_engine.specs.declared.refusal.Refusal.TheVariants as refusal
-use Rattle.pdw_engine.specs.declared.session.TheConstants.{MOST_FILE_BYTES}
+use Rattle.pdw_base.specs.declared.limits.TheConstants.{MOST_FILE_BYTES}
 use Rattle.pdw_form.specs.declared.judged.Judged.{Judged}
 use Rattle.pdw_form.specs.declared.judged.Judged.TheVariants as judged
 use Rattle.pdw_load.specs.Records.{faults_of, records_of}

@@ -16,7 +16,7 @@ use Rattle.pdw_engine.specs.Prepared.{Prepares, is_built, wanted}
 use Rattle.pdw_engine.specs.declared.answer.Answer.{Answer}
 use Rattle.pdw_engine.specs.declared.answer.Answer.TheVariants.{Done, Loaded, Rows}
 use Rattle.pdw_engine.specs.declared.refusal.Refusal.TheVariants as refusal
-use Rattle.pdw_engine.specs.declared.session.TheConstants.{MOST_FILE_BYTES}
+use Rattle.pdw_base.specs.declared.limits.TheConstants.{MOST_FILE_BYTES}
 use Rattle.pdw_load.specs.Records.{records_of, faults_of, rows_of}
 use Rattle.pdw_load.specs.declared.load_error.LoadError.{LoadError}
 use Rattle.pdw_semantics.specs.Answer.{answer as answer_of, order_of}

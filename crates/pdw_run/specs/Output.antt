@@ -6,11 +6,11 @@ use Rattle.pdw_engine.specs.Plain.{Plain, start}
 use Rattle.pdw_engine.specs.Prepared.{Prepares, RefusesFirst, wanted}
 use Rattle.pdw_engine.specs.declared.answer.Answer.{Answer}
 use Rattle.pdw_engine.specs.declared.refusal.Refusal.{Refusal}
-use Rattle.pdw_engine.specs.declared.session.TheConstants.{MOST_FILE_BYTES}
+use Rattle.pdw_base.specs.declared.limits.TheConstants.{MOST_FILE_BYTES}
 use Rattle.pdw_outside.specs.Faults.{Rose}
 use Rattle.pdw_outside.specs.Whole.{IsContent}
 use Rattle.pdw_form.specs.declared.judged.Judged.{Judged}
-use Rattle.pdw_run.specs.declared.refusal.TheConstants.{MOST_SCRIPT_BYTES}
+use Rattle.pdw_base.specs.declared.limits.TheConstants.{MOST_SCRIPT_BYTES}
 use Rattle.pdw_run.specs.declared.status.Status.{Status}
 use Rattle.pdw_run.specs.declared.status.Status.TheVariants as status
 use Rattle.pdw_run.specs.Reading.{IsScript, IsTextFault}

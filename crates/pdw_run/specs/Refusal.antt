@@ -1,7 +1,7 @@
 -- The lines that refuse a script or a statement.
 use Rattle.std.specs.Prelude.{ℕ, ℤ, List, [], ◌++◌, codes, Option, Some, None}
 use Rattle.std.specs.Fmt.{decimal, signed_decimal}
-use Rattle.pdw_engine.specs.declared.session.TheConstants.{MOST_FILE_BYTES}
+use Rattle.pdw_base.specs.declared.limits.TheConstants.{MOST_FILE_BYTES}
 use Rattle.pdw_lex.specs.declared.lex_error.LexError.{LexError}
 use Rattle.pdw_lex.specs.declared.lex_error.LexError.TheVariants as lex
 use Rattle.pdw_reading.specs.declared.parse_error.ParseError.{ParseError}
@@ -12,7 +12,7 @@ use Rattle.pdw_walk.specs.declared.fault.JudgeFault.{JudgeFault}
 use Rattle.pdw_walk.specs.declared.fault.JudgeFault.TheVariants as judge
 use Rattle.pdw_walk.specs.declared.fault.LimitName.{LimitName}
 use Rattle.pdw_walk.specs.declared.fault.LimitName.TheVariants as limit
-use Rattle.pdw_run.specs.declared.refusal.TheConstants.{MOST_SCRIPT_BYTES}
+use Rattle.pdw_base.specs.declared.limits.TheConstants.{MOST_SCRIPT_BYTES}
 
 -- ---- a script
 

@@ -4,7 +4,7 @@ use Rattle.pdw_syntax.specs.declared.statement.Statement.{Statement}
 use Rattle.pdw_engine.specs.Plain.{Plain}
 use Rattle.pdw_engine.specs.declared.refusal.Stop.{Stop as EngineStop}
 use Rattle.pdw_engine.specs.declared.refusal.Stop.TheVariants as engine
-use Rattle.pdw_engine.specs.declared.session.TheConstants.{MOST_FILE_BYTES}
+use Rattle.pdw_base.specs.declared.limits.TheConstants.{MOST_FILE_BYTES}
 use Rattle.pdw_outside.specs.Faults.{Rose}
 use Rattle.pdw_outside.specs.Whole.{IsLongerThan}
 use Rattle.pdw_run.specs.declared.stop.Stop.{Stop}

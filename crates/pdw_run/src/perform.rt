@@ -12,7 +12,8 @@ ghost use Rattle.pdw_run.specs.Trace.{prints};
 
 use crate::stop::{Stop, stopped};
 use crate::text;
-use pdw_engine::{MOST_FILE_BYTES, Prepared, Session};
+use pdw_base::MOST_FILE_BYTES;
+use pdw_engine::{Prepared, Session};
 use pdw_outside::{Files, ReadStop, read_whole};
 use pdw_syntax::Statement;
 use std::alloc::Global;

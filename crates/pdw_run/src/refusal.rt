@@ -6,16 +6,13 @@ ghost use Rattle.pdw_run.specs.Refusal.{fault_line, fault_text, judged_line, lex
 ghost use Rattle.pdw_run.specs.Refusal as lines;
 ghost use Rattle.pdw_run.specs.RefusalLine as spec;
 
-use pdw_base::NoMemory;
-use pdw_engine::{MOST_FILE_BYTES, Refusal};
+use pdw_base::{MOST_FILE_BYTES, MOST_SCRIPT_BYTES, NoMemory};
+use pdw_engine::Refusal;
 use pdw_lex::LexError;
 use pdw_load::LoadError;
 use pdw_parse::ParseError;
 use pdw_walk::{JudgeFault, LimitName};
 use std::alloc::Global;
-
-/// The greatest length of a script, in bytes.
-pub const MOST_SCRIPT_BYTES: usize = 1_048_576;
 
 /// The line that refuses a script of too many bytes.
 pub fn long_script(alloc: Global) -> Result<String, NoMemory>

@@ -13,11 +13,11 @@ ghost use Rattle.pdw_run.specs.Words.{HaveNoForm};
 ghost use Rattle.pdw_run.specs.declared.status.Status.TheVariants as status;
 
 use crate::reading::read_script;
-use crate::refusal::{MOST_SCRIPT_BYTES, long_script};
+use crate::refusal::long_script;
 use crate::status::Status;
 use crate::step::{refuse, run_statements};
 use crate::words;
-use pdw_base::{NodeCount, Str};
+use pdw_base::{MOST_SCRIPT_BYTES, NodeCount, Str};
 use pdw_engine::Session;
 use pdw_outside::{Files, ReadStop, Sink, read_whole};
 use pdw_syntax::Statement;
@@ -97,10 +97,10 @@ fn run_script<F: Files, S: Sink>(
 pub fn run<F: Files, S: Sink>(alloc: Global, words: &[Str], files: &mut F, out: &mut S) -> Status
     ensures lawful { (trace : Trace) × Lawful (F.bytes files.old) (F.faults files.old) (F.faults files.new) words.now result trace × Adds (S.written out.old) (S.written out.new) trace.text }
 
-    // Where nothing is at fault and no stream fails, every statement is executed, or memory is wanted.
+    // Where no lawful output ends with a refusal, and neither a file at which one may stop nor the sink failed, every statement is executed, or memory is wanted.
     ensures completes { ¬ (HaveNoForm words.now) → MeetsNoFault (F.bytes files.old) (F.faults files.old) (F.faults files.new) words.now → ¬ (Rose (S.faults out.old) (S.faults out.new)) → (result ≡ status.Done) ⊎ (result ≡ status.Memory) }
 
-    // Where every lawful output ends with a refusal and no stream fails, the run is refused, or memory is wanted.
+    // Where no lawful output is finished, and neither a file at which one may stop nor the sink failed, the run is refused, or memory is wanted.
     ensures refuses { ¬ (HaveNoForm words.now) → IsRefusedOnly (F.bytes files.old) (F.faults files.old) (F.faults files.new) words.now → ¬ (Rose (S.faults out.old) (S.faults out.new)) → (result ≡ status.Refused) ⊎ (result ≡ status.Memory) }
 
     ensures reading { SameReading result (F.faults files.old) (F.faults files.new) }

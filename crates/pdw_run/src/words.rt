@@ -5,9 +5,7 @@ ghost use Rattle.std.specs.Fmt.{decimal};
 ghost use Rattle.pdw_run.specs.Words.{AskRun, HaveNoForm};
 
 use itoa::Buffer;
-use pdw_base::{NodeCount, Str};
-
-const MOST_NODES: u32 = 16;
+use pdw_base::{MOST_NODES, NodeCount, Str};
 
 // The number of nodes that a word writes in digits.
 fn node_count(word: &Str) -> Option<NodeCount>

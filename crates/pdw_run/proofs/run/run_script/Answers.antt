@@ -3,7 +3,7 @@ use Rattle.pdw_outside.proofs.SinkLemmas.{adds_none}
 use Rattle.pdw_outside.specs.Faults.{Rose}
 use Rattle.pdw_outside.specs.Whole.{IsContent, IsLongerThan, SameUnlessFailed}
 use Rattle.pdw_outside.specs.declared.reading.ReadStop.{ReadStop}
-use Rattle.pdw_run.specs.declared.refusal.TheConstants.{MOST_SCRIPT_BYTES}
+use Rattle.pdw_base.specs.declared.limits.TheConstants.{MOST_SCRIPT_BYTES}
 use Rattle.pdw_run.specs.Output.{Held, Outputs, ScriptWrites, Stopped, Tells, Unread}
 use Rattle.pdw_run.specs.Refusal.{long_script_line}
 use Rattle.pdw_run.specs.Run.{EndsRefused}
