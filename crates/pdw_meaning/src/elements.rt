@@ -7,9 +7,9 @@ ghost use Rattle.pdw_semantics.specs.Froms as froms;
 ghost use Rattle.pdw_meaning.specs.Joins as spec;
 ghost use Rattle.pdw_walk.specs.Froms as scope;
 
-use crate::scope::{Element, Label, Scope, labelled_row};
 use pdw_base::{NoMemory, Row, Str};
 use pdw_catalog::{Appliance, Column};
+use pdw_plain_exprs::{Element, Label, Scope, labelled_row};
 use sqlite_items::Items as ListOf;
 use std::alloc::Global;
 

@@ -6,10 +6,8 @@ ghost use Rattle.std.specs.Str.{bytes_eq};
 ghost use Rattle.pdw_semantics.specs.Environment.{group_of};
 ghost use Rattle.pdw_semantics.specs.Queries as spec;
 
-use crate::environment::first_row;
-use crate::exprs::value_of;
-use crate::scope::{Cell, Label, Scope};
 use pdw_base::{NoMemory, Row, Str, Value};
+use pdw_plain_exprs::{Cell, Label, Scope, first_row, value_of};
 use pdw_resolve::item_name;
 use pdw_syntax::{Item, Items};
 use sqlite_items::Items as ListOf;

@@ -4,15 +4,9 @@
 mod answer;
 mod distinct;
 mod elements;
-mod environment;
-mod exprs;
-mod groups;
 mod items;
 mod joins;
 mod queries;
-mod scope;
-mod truths;
-mod values;
 
 pub use answer::plain_answer;
 pub use pdw_expr::{aggregated, each_once, is_same_row};
