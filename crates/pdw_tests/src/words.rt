@@ -1,7 +1,9 @@
 //! The words of the command line.
 
-use super::runs::{Run, assert_run};
+use super::runs::{PRINTED, RECORDS, Run, SCRIPT, assert_run, bytes_of, entries, words_of};
+use pdw_outside::{MemFiles, MemSink, read_whole, write_whole};
 use pdw_run::Status;
+use pdw_run::run::run;
 use std::alloc::Global;
 use std::process::Abort;
 use std::test::Fail;
@@ -44,6 +46,57 @@ fn words_of_another_form_run_nothing(rt: HostRuntime) -> Result<(), Fail> {
         records: "",
     };
     assert_words(&rt, rt.alloc(), run, CASES)
+}
+
+// Words without a form.
+const FORMLESS: &str = "\
+run
+run 4
+run 4 s t.csv
+run 0 s
+run 17 s
+walk 4 s
+s
+";
+
+const RUN: Run<'static> = Run {
+    words: "run 4 s",
+    script: SCRIPT,
+    records: RECORDS,
+};
+
+// The first call of each is still to come: it fails, and the second does not.
+fn assert_untouched(
+    rt: &impl Abort,
+    alloc: Global,
+    files: &mut MemFiles,
+    out: &mut MemSink,
+) -> Result<(), Fail> {
+    let printed = bytes_of(alloc, PRINTED)?;
+    assert!(rt; out.written().is_empty());
+    assert!(rt; write_whole(out, printed.as_slice()).is_err());
+    assert!(rt; write_whole(out, printed.as_slice()).is_ok());
+    assert!(rt; read_whole(alloc, files, "s", 1_000).is_err());
+    assert!(rt; read_whole(alloc, files, "s", 1_000).is_ok());
+    Ok(())
+}
+
+// The words are bad, and neither a file nor the sink was called.
+fn assert_nothing_done(rt: &impl Abort, alloc: Global, words: &str) -> Result<(), Fail> {
+    let words = words_of(alloc, words)?;
+    let mut files = MemFiles::new(entries(alloc, RUN)?, vec![in alloc; 1]?, 1_000);
+    let mut out = MemSink::new(alloc, vec![in alloc; 1]?, 1_000, 1_000)?;
+    let status = run(alloc, words.as_slice(), &mut files, &mut out);
+    assert_eq!(rt; status, Status::BadWords);
+    assert_untouched(rt, alloc, &mut files, &mut out)
+}
+
+#[test]
+fn words_of_another_form_read_and_write_nothing(rt: HostRuntime) -> Result<(), Fail> {
+    for words in FORMLESS.lines() {
+        assert_nothing_done(&rt, rt.alloc(), words)?;
+    }
+    Ok(())
 }
 
 #[test]
