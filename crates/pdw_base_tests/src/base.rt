@@ -1,3 +1,5 @@
+//! Tests of values, texts, schemas and bags.
+
 use crate::values::value;
 use pdw_base::{Bag, ColId, Kind, NodeCount, Row, Schema, Str, Value, compare, node_of, order};
 use std::alloc::Global;
@@ -131,16 +133,57 @@ fn a_schema_rises_strictly(rt: HostRuntime) -> Result<(), Fail> {
     Ok(())
 }
 
+// Columns, and the place of each.
+const PLACES: &str = "\
+3 => 0
+5 => 1
+4 => none";
+
+fn is_at(place: Option<usize>, wanted: &str) -> Result<bool, Fail> {
+    match place {
+        Some(place) => Ok(wanted != "none" && place == wanted.parse::<usize>()?),
+        None => Ok(wanted == "none"),
+    }
+}
+
+fn places_so(schema: &Schema, line: &str) -> Result<bool, Fail> {
+    let (column, wanted) = line.split_once(" => ").ok_or("an arrow")?;
+    is_at(schema.place(ColId(column.parse::<u16>()?)), wanted)
+}
+
+fn places_all(schema: &Schema) -> Result<bool, Fail> {
+    for line in PLACES.lines() {
+        if !places_so(schema, line)? {
+            return Ok(false);
+        }
+    }
+    Ok(true)
+}
+
+fn has_columns(schema: &Schema) -> bool {
+    match schema.cols() {
+        [first, second] => {
+            first.0.0 == 3 && first.1 == Kind::Int && second.0.0 == 5 && second.1 == Kind::Text
+        }
+        _ => false,
+    }
+}
+
+fn copy_places_all(alloc: Global, made: &Schema) -> Result<bool, Fail> {
+    let copy = made.try_copy(alloc)?;
+    Ok(has_columns(&copy) && places_all(&copy)?)
+}
+
+fn schema_places_all(alloc: Global) -> Result<bool, Fail> {
+    match schema_of(alloc, 3, 5)? {
+        Some(made) => copy_places_all(alloc, &made),
+        None => Ok(false),
+    }
+}
+
 #[test]
 fn a_schema_places_its_columns(rt: HostRuntime) -> Result<(), Fail> {
-    let alloc = rt.alloc();
-    let made = schema_of(alloc, 3, 5)?.ok_or("rising")?;
-    let schema = made.try_copy(alloc)?;
-    let wanted = [(ColId(3), Kind::Int), (ColId(5), Kind::Text)];
-    assert_eq!(rt; schema.cols(), wanted.as_slice());
-    assert_eq!(rt; schema.place(ColId(3)), Some(0));
-    assert_eq!(rt; schema.place(ColId(5)), Some(1));
-    assert_eq!(rt; schema.place(ColId(4)), None);
+    assert!(rt; schema_places_all(rt.alloc())?);
     Ok(())
 }
 
@@ -166,28 +209,62 @@ fn same(found: &[Value], wanted: &[Value]) -> bool {
     true
 }
 
+// The rows 2 and 3.
+fn next_rows(alloc: Global) -> Result<Vec<Row>, Fail> {
+    let mut rows = Vec::with_capacity(alloc, 10)?;
+    rows.push(row(alloc, 2, "'b")?)?;
+    rows.push(row(alloc, 3, "'c")?)?;
+    Ok(rows)
+}
+
+// Whether the bag takes the rows 1 to 3, and leaves the room of the last two.
+fn takes_rows(alloc: Global, bag: &mut Bag) -> Result<bool, Fail> {
+    bag.push(row(alloc, 1, "'a")?)?;
+    let mut rows = next_rows(alloc)?;
+    bag.append(&mut rows)?;
+    Ok(rows.is_empty() && rows.capacity() >= 10)
+}
+
+// Whether each row is the row of the same place in the bag.
+fn begin(rows: &[Row], bag: &Bag) -> bool {
+    for place in 0..rows.len() {
+        match bag.rows().get(place) {
+            Some(wanted) if same(rows[place].values(), wanted.values()) => {}
+            _ => return false,
+        }
+    }
+    true
+}
+
+// Whether the copy has so many rows of the bag once it is shortened.
+fn shortens(copy: &mut Bag, bag: &Bag, length: usize, kept: usize) -> bool {
+    copy.truncate(length);
+    copy.rows().len() == kept && begin(copy.rows(), bag)
+}
+
+fn copy_shortens(alloc: Global, bag: &Bag) -> Result<bool, Fail> {
+    let mut copy = bag.try_copy(alloc)?;
+    Ok(
+        shortens(&mut copy, bag, 4, 3)
+            && shortens(&mut copy, bag, 2, 2)
+            && shortens(&mut copy, bag, 0, 0),
+    )
+}
+
+fn last_is_third(alloc: Global, bag: &Bag) -> Result<bool, Fail> {
+    let wanted = row(alloc, 3, "'c")?;
+    match bag.rows().last() {
+        Some(last) => Ok(same(last.values(), wanted.values())),
+        None => Ok(false),
+    }
+}
+
 #[test]
 fn a_bag_takes_rows_and_leaves_the_room(rt: HostRuntime) -> Result<(), Fail> {
     let alloc = rt.alloc();
     let mut bag = Bag::new(alloc);
-    bag.push(row(alloc, 1, "'a")?)?;
-    let mut rows = Vec::with_capacity(alloc, 10)?;
-    rows.push(row(alloc, 2, "'b")?)?;
-    rows.push(row(alloc, 3, "'c")?)?;
-    bag.append(&mut rows)?;
-    assert!(rt; rows.is_empty());
-    assert!(rt; rows.capacity() >= 10);
-    let mut copy = bag.try_copy(alloc)?;
-    for (len, kept) in [(4, 3), (2, 2), (0, 0)] {
-        copy.truncate(len);
-        assert_eq!(rt; copy.rows().len(), kept, "{len}");
-        for (at, found) in copy.rows().iter().enumerate() {
-            let wanted = bag.rows().get(at).ok_or("a row")?;
-            assert!(rt; same(found.values(), wanted.values()), "{at}");
-        }
-    }
-    let wanted = row(alloc, 3, "'c")?;
-    let last = bag.rows().last().ok_or("a row")?;
-    assert!(rt; same(last.values(), wanted.values()));
+    assert!(rt; takes_rows(alloc, &mut bag)?);
+    assert!(rt; copy_shortens(alloc, &bag)?);
+    assert!(rt; last_is_third(alloc, &bag)?);
     Ok(())
 }

@@ -1,14 +1,16 @@
+//! Tests of an appliance with its tables.
+
 ghost use Rattle.std.specs.Prelude.{◌≡◌, ◌<◌, [], ◌∷◌, Some, vec_len, IfOk};
 ghost use Rattle.std.specs.List.{AllByRecursion};
 ghost use Rattle.pdw_catalog.specs.Table.{FitsTable, IsPlaced};
 ghost use Rattle.pdw_catalog.specs.Appliance.{HasTable, creating, empty_of};
 ghost use Rattle.pdw_catalog.specs.Sample.{sample_columns, sample_table};
+ghost use Rattle.pdw_catalog.specs.declared.table.Placing.TheVariants as placings;
 
 use pdw_base::{Bag, Kind, NoMemory, NodeCount, Row, Str, Value};
 use pdw_catalog::{Appliance, Column, Placing, Table};
 use sqlite_items::Items;
 use std::alloc::Global;
-use std::process::Abort;
 use std::test::Fail;
 
 fn sample(alloc: Global, name: Str, placing: Placing) -> Result<Table, NoMemory>
@@ -87,88 +89,126 @@ fn with_table(alloc: Global, placing: Placing) -> Result<Appliance, NoMemory>
     Ok(appliance)
 }
 
-fn check_node(
-    rt: &impl Abort,
-    alloc: Global,
-    appliance: &Appliance,
-    name: &Str,
-    node: u32,
-    wanted: &str,
-) -> Result<(), NoMemory>
-    requires there { HasTable appliance.now name.now }
-    requires within { node < appliance.now.nodes }
-{
-    let found = shown(alloc, appliance.rows_at(name, node))?;
-    assert_eq!(rt; found.as_str(), wanted, "at node {node}");
-    Ok(())
-}
-
-fn check_whole(
-    rt: &impl Abort,
-    alloc: Global,
-    appliance: &Appliance,
-    name: &Str,
-    wanted: &str,
-) -> Result<(), NoMemory>
-    requires { HasTable appliance.now name.now }
-{
-    assert_eq!(rt; appliance.row_count(name), 2);
-    let all = appliance.whole(alloc, name)?;
-    let found = shown(alloc, &all)?;
-    assert_eq!(rt; found.as_str(), wanted);
-    Ok(())
-}
-
-// The two rows, placed so: what stands at each node, and the whole table.
-fn check_placing(
-    rt: &impl Abort,
-    alloc: Global,
-    placing: Placing,
-    at_nodes: [&str; 3],
-    whole: &str,
-) -> Result<(), NoMemory>
+// The table t with the two rows, at three compute nodes.
+fn filled(alloc: Global, placing: Placing) -> Result<Appliance, NoMemory>
     requires { IsPlaced placing 2 }
+    ensures there { IfOk result (λ appliance. HasTable appliance (116 ∷ [])) }
 {
-    let mut appliance = with_table(alloc, placing)?;
     let name = Str::from_text(alloc, "t")?;
     let rows = two_rows(alloc)?;
+    let mut appliance = with_table(alloc, placing)?;
     appliance.append_rows(alloc, &name, rows)?;
-    for node in 0..3 {
-        check_node(rt, alloc, &appliance, &name, node, at_nodes[node as usize])?;
+    Ok(appliance)
+}
+
+// What stands at each node, with a bar after it.
+fn shown_nodes(alloc: Global, appliance: &Appliance, name: &Str) -> Result<String, NoMemory>
+    requires { HasTable appliance.now name.now }
+{
+    let mut text = String::new(alloc);
+    for node in 0..appliance.nodes().get() {
+        text.push_str(shown(alloc, appliance.rows_at(name, node))?.as_str())?;
+        text.push_str("|")?;
     }
-    check_whole(rt, alloc, &appliance, &name, whole)
+    Ok(text)
+}
+
+fn shown_whole(alloc: Global, appliance: &Appliance, name: &Str) -> Result<String, NoMemory>
+    requires { HasTable appliance.now name.now }
+{
+    let all = appliance.whole(alloc, name)?;
+    shown(alloc, &all)
+}
+
+// What stands at each node, how many rows the whole table has, and these.
+fn shown_table(alloc: Global, appliance: &Appliance, name: &Str) -> Result<String, NoMemory>
+    requires { HasTable appliance.now name.now }
+{
+    let nodes = shown_nodes(alloc, appliance, name)?;
+    let whole = shown_whole(alloc, appliance, name)?;
+    let count = appliance.row_count(name);
+    Ok(format!(in alloc; "{nodes} {count} rows: {whole}")?)
+}
+
+// The two rows, placed so.
+fn shown_placed(alloc: Global, placing: Placing) -> Result<String, NoMemory>
+    requires { IsPlaced placing 2 }
+{
+    let name = Str::from_text(alloc, "t")?;
+    let appliance = filled(alloc, placing)?;
+    shown_table(alloc, &appliance, &name)
 }
 
 #[test]
 fn rows_stand_where_the_placing_says(rt: HostRuntime) -> Result<(), Fail> {
-    let placed = ["NULL ", "4 ", ""];
-    check_placing(&rt, rt.alloc(), Placing::Hash(0), placed, "NULL 4 ")?;
-    let copied = ["4 NULL ", "4 NULL ", "4 NULL "];
-    check_placing(&rt, rt.alloc(), Placing::Replicate, copied, "4 NULL ")?;
+    let hashed = shown_placed(rt.alloc(), Placing::Hash(0))?;
+    assert_eq!(rt; hashed.as_str(), "NULL |4 || 2 rows: NULL 4 ");
+    let copied = shown_placed(rt.alloc(), Placing::Replicate)?;
+    assert_eq!(rt; copied.as_str(), "4 NULL |4 NULL |4 NULL | 2 rows: 4 NULL ");
     Ok(())
+}
+
+// The table t, and after it the replicated table u.
+fn with_second(alloc: Global) -> Result<Appliance, NoMemory>
+    ensures { IfOk result (λ appliance. appliance ≡ creating (creating (empty_of 3) (sample_table (116 ∷ []) (placings.Hash 0))) (sample_table (117 ∷ []) placings.Replicate)) }
+{
+    let table = sample(alloc, Str::from_text(alloc, "u")?, Placing::Replicate)?;
+    let mut appliance = with_table(alloc, Placing::Hash(0))?;
+    appliance.create_table(alloc, table)?;
+    Ok(appliance)
+}
+
+// The table u with the two rows. The table t is gone.
+fn after_drop(alloc: Global, first: &Str, second: &Str) -> Result<Appliance, NoMemory>
+    requires first { first.now ≡ 116 ∷ [] }
+    requires second { second.now ≡ 117 ∷ [] }
+    ensures there { IfOk result (λ appliance. HasTable appliance second.now) }
+{
+    let rows = two_rows(alloc)?;
+    let mut appliance = with_second(alloc)?;
+    appliance.append_rows(alloc, second, rows)?;
+    appliance.drop_table(first);
+    Ok(appliance)
+}
+
+fn has_second(appliance: &Appliance, first: &Str, second: &Str) -> bool {
+    let catalog = appliance.catalog();
+    appliance.nodes().get() == 3
+        && catalog.len() == 1
+        && !catalog.is_empty()
+        && catalog.table(first).is_none()
+        && catalog.table(second).is_some()
+}
+
+// Whether a copy is replicated and has two columns.
+fn is_copied(alloc: Global, table: &Table) -> Result<bool, NoMemory> {
+    let copy = table.try_copy(alloc)?;
+    Ok(
+        copy.columns.len() == 2
+            && copy.placing == Placing::Replicate
+            && copy.placing.most_rows() == 100_000,
+    )
+}
+
+fn second_is_left(alloc: Global) -> Result<bool, NoMemory> {
+    let first = Str::from_text(alloc, "t")?;
+    let second = Str::from_text(alloc, "u")?;
+    let appliance = after_drop(alloc, &first, &second)?;
+    Ok(has_second(&appliance, &first, &second) && is_copied(alloc, appliance.table(&second))?)
+}
+
+fn shown_second(alloc: Global) -> Result<String, NoMemory> {
+    let first = Str::from_text(alloc, "t")?;
+    let second = Str::from_text(alloc, "u")?;
+    let appliance = after_drop(alloc, &first, &second)?;
+    shown_table(alloc, &appliance, &second)
 }
 
 #[test]
 fn dropping_leaves_the_other_table(rt: HostRuntime) -> Result<(), Fail> {
-    let alloc = rt.alloc();
-    let mut appliance = with_table(alloc, Placing::Hash(0))?;
-    let first = Str::from_text(alloc, "t")?;
-    let second = Str::from_text(alloc, "u")?;
-    let table = sample(alloc, Str::from_text(alloc, "u")?, Placing::Replicate)?;
-    appliance.create_table(alloc, table)?;
-    let rows = two_rows(alloc)?;
-    appliance.append_rows(alloc, &second, rows)?;
-    appliance.drop_table(&first);
-    assert_eq!(rt; appliance.nodes().get(), 3);
-    assert_eq!(rt; appliance.catalog().len(), 1);
-    assert!(rt; !appliance.catalog().is_empty());
-    assert!(rt; appliance.catalog().table(&first).is_none());
-    assert!(rt; appliance.catalog().table(&second).is_some());
-    let copy = appliance.table(&second).try_copy(alloc)?;
-    assert_eq!(rt; copy.columns.len(), 2);
-    assert_eq!(rt; copy.placing, Placing::Replicate);
-    assert_eq!(rt; copy.placing.most_rows(), 100_000);
-    check_node(&rt, alloc, &appliance, &second, 1, "4 NULL ")?;
+    assert!(rt; second_is_left(rt.alloc())?);
+    let found = shown_second(rt.alloc())?;
+    assert_eq!(rt; found.as_str(), "4 NULL |4 NULL |4 NULL | 2 rows: 4 NULL ");
     Ok(())
 }
 

@@ -1,3 +1,5 @@
+//! Tests of expressions, conditions and aggregates.
+
 use crate::values::value;
 use pdw_base::{ColId, Kind, Row, Schema, Str, Truth, Value, ValueRef, order};
 use pdw_expr::{Agg, AggKind, Arith, Cmp, Cond, Scalar, eval_cond, eval_scalar};
@@ -347,12 +349,20 @@ fn and_and_or_are_three_valued(rt: HostRuntime) -> Result<(), Fail> {
     Ok(())
 }
 
+fn and_of_none_is(alloc: Global, wanted: Truth) -> Result<bool, Fail> {
+    let all = Cond::All(Items::new(alloc));
+    has_truth(alloc, &all, wanted)
+}
+
+fn or_of_none_is(alloc: Global, wanted: Truth) -> Result<bool, Fail> {
+    let any = Cond::Any(Items::new(alloc));
+    has_truth(alloc, &any, wanted)
+}
+
 #[test]
 fn and_of_none_is_true_and_or_of_none_is_false(rt: HostRuntime) -> Result<(), Fail> {
-    let all = Cond::All(Items::new(rt.alloc()));
-    assert!(rt; has_truth(rt.alloc(), &all, Truth::True)?);
-    let any = Cond::Any(Items::new(rt.alloc()));
-    assert!(rt; has_truth(rt.alloc(), &any, Truth::False)?);
+    assert!(rt; and_of_none_is(rt.alloc(), Truth::True)?);
+    assert!(rt; or_of_none_is(rt.alloc(), Truth::False)?);
     Ok(())
 }
 
@@ -433,12 +443,16 @@ NULL LIKE NULL => U
 1 LIKE '1 => U
 '1 LIKE 1 => U";
 
+fn like_is(alloc: Global, a: &str, pattern: &str, wanted: Truth) -> Result<bool, Fail> {
+    let (text, pattern) = literals(alloc, a, pattern)?;
+    has_truth(alloc, &Cond::Like(text, pattern), wanted)
+}
+
 fn is_like(alloc: Global, line: &str) -> Result<bool, Fail> {
     let (test, wanted) = line.split_once(" => ").ok_or("an arrow")?;
     let (a, pattern) = test.split_once(" LIKE ").ok_or("a pattern")?;
-    let wanted = truth(wanted.chars().next().ok_or("a truth")?);
-    let (text, pattern) = literals(alloc, a, pattern)?;
-    has_truth(alloc, &Cond::Like(text, pattern), wanted)
+    let wanted = wanted.chars().next().ok_or("a truth")?;
+    like_is(alloc, a, pattern, truth(wanted))
 }
 
 #[test]
@@ -486,33 +500,45 @@ fn like_tries_no_part_twice(rt: HostRuntime) -> Result<(), Fail> {
     Ok(())
 }
 
-#[test]
-fn a_copied_aggregate_is_the_same(rt: HostRuntime) -> Result<(), Fail> {
-    let alloc = rt.alloc();
+// Whether it is the sum of column 3, as column 40.
+fn is_sum(alloc: Global, agg: &Agg) -> Result<bool, Fail> {
+    match &agg.arg {
+        Some(arg) if agg.kind == AggKind::Sum && agg.out == ColId(40) => has_value(alloc, arg, "7"),
+        _ => Ok(false),
+    }
+}
+
+fn copy_is_sum(alloc: Global, made: &Agg) -> Result<bool, Fail> {
+    let copy = made.try_copy(alloc)?;
+    is_sum(alloc, &copy)
+}
+
+fn sum_is_copied(alloc: Global) -> Result<bool, Fail> {
     let made = Agg {
         kind: AggKind::Sum,
         arg: Some(Scalar::Col(ColId(3))),
         out: ColId(40),
     };
-    let copy = made.try_copy(alloc)?;
-    assert!(rt; copy.kind == AggKind::Sum);
-    assert!(rt; copy.out == ColId(40));
-    match &copy.arg {
-        Some(arg) => assert!(rt; has_value(alloc, arg, "7")?),
-        None => assert!(rt; false, "the argument"),
-    }
-    Ok(())
+    copy_is_sum(alloc, &made)
 }
 
-#[test]
-fn a_copied_count_of_rows_has_no_argument(rt: HostRuntime) -> Result<(), Fail> {
-    let alloc = rt.alloc();
+fn copy_has_no_argument(alloc: Global, made: &Agg) -> Result<bool, Fail> {
+    let copy = made.try_copy(alloc)?;
+    Ok(copy.arg.is_none())
+}
+
+fn count_is_copied(alloc: Global) -> Result<bool, Fail> {
     let made = Agg {
         kind: AggKind::CountStar,
         arg: None,
         out: ColId(41),
     };
-    let copy = made.try_copy(alloc)?;
-    assert!(rt; copy.arg.is_none());
+    copy_has_no_argument(alloc, &made)
+}
+
+#[test]
+fn a_copied_aggregate_is_the_same(rt: HostRuntime) -> Result<(), Fail> {
+    assert!(rt; sum_is_copied(rt.alloc())?, "a sum");
+    assert!(rt; count_is_copied(rt.alloc())?, "a count of rows");
     Ok(())
 }

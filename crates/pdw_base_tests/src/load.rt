@@ -1,3 +1,6 @@
+//! Tests of files of rows.
+
+use crate::values::bytes_of;
 use pdw_base::{Kind, MOST_COLUMNS, Row, Str, Value};
 use pdw_catalog::{Column, Placing, Table};
 use pdw_load::{LoadError, read_table};
@@ -29,20 +32,6 @@ fn shown_value(alloc: Global, value: &Value) -> Result<String, Fail> {
         Value::Text(text) => Ok(format!(in alloc; "'{}'", text.text())?),
         Value::Wide(number) => Ok(format!(in alloc; "wide {number}")?),
     }
-}
-
-// The bytes that a case stands for: `~` is a line feed, `^` a carriage return and `@` the byte 255.
-fn bytes_of(alloc: Global, case: &str) -> Result<Vec<u8>, Fail> {
-    let mut bytes = Vec::new(alloc);
-    for byte in case.bytes() {
-        bytes.push(match byte {
-            b'~' => b'\n',
-            b'^' => b'\r',
-            b'@' => 0xFF,
-            other => other,
-        })?;
-    }
-    Ok(bytes)
 }
 
 // The rows, each value with a space after it and each row with a bar.

@@ -1,3 +1,5 @@
+//! What the tests write for values and bytes.
+
 use pdw_base::{Str, Value};
 use std::alloc::Global;
 use std::test::Fail;
@@ -14,4 +16,18 @@ pub(crate) fn value(alloc: Global, case: &str) -> Result<Value, Fail> {
         return Ok(Value::Wide(number.parse::<i128>()?));
     }
     Ok(Value::Int(case.parse::<i64>()?))
+}
+
+/// The bytes that a case stands for: `~` is a line feed, `^` a carriage return and `@` the byte 255.
+pub(crate) fn bytes_of(alloc: Global, case: &str) -> Result<Vec<u8>, Fail> {
+    let mut bytes = Vec::new(alloc);
+    for byte in case.bytes() {
+        bytes.push(match byte {
+            b'~' => b'\n',
+            b'^' => b'\r',
+            b'@' => 0xFF,
+            other => other,
+        })?;
+    }
+    Ok(bytes)
 }
