@@ -11,7 +11,6 @@ mod values;
 pub use environment::{environment_of, first_row};
 pub use exprs::value_of;
 pub use groups::all_groups;
-pub use pdw_expr::{aggregated, each_once, is_same_row};
 pub use pdw_semantics::{Cell, Label};
 pub use scope::{
     Element, Scope, beside, both_labels, copy_scope, copy_scopes, labelled_row, null_row,
