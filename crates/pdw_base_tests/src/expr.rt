@@ -230,16 +230,27 @@ const CHAINS: &str = "\
 100 / 8 / 5 => 2
 9223372036854775807 + 1 - 1 => NULL";
 
+fn two_links(
+    alloc: Global,
+    sign: &str,
+    second: &str,
+    last_sign: &str,
+    third: &str,
+) -> Result<Vec<(Arith, Scalar)>, Fail> {
+    let mut links = links(alloc, sign, second)?;
+    links.push(link(alloc, last_sign, third)?)?;
+    Ok(links)
+}
+
 fn computes_twice(alloc: Global, line: &str) -> Result<bool, Fail> {
     let (chained, wanted) = line.split_once(" => ").ok_or("an arrow")?;
     let (first, rest) = chained.split_once(' ').ok_or("an operator")?;
     let (sign, rest) = rest.split_once(' ').ok_or("an operand")?;
     let (second, rest) = rest.split_once(' ').ok_or("an operator")?;
     let (last_sign, third) = rest.split_once(' ').ok_or("an operand")?;
-    let mut links = links(alloc, sign, second)?;
-    links.push(link(alloc, last_sign, third)?)?;
-    let e = Scalar::Chain(boxed(alloc, first)?, Items::from_vec(links));
-    has_value(alloc, &e, wanted)
+    let links = two_links(alloc, sign, second, last_sign, third)?;
+    let first = boxed(alloc, first)?;
+    has_value(alloc, &Scalar::Chain(first, Items::from_vec(links)), wanted)
 }
 
 #[test]
