@@ -1,0 +1,7 @@
+//! Tests of statistics, and of what moves cost.
+#![tactic(auto)]
+
+#[cfg(test)]
+mod costs;
+#[cfg(test)]
+mod statistics;
