@@ -106,7 +106,7 @@ module _ (columns : Columns) (own_kind : Agg → Kind) where
   abbrev own_columns : List Agg → Columns
   own_columns aggs = map (λ agg. (agg.out, own_kind agg)) aggs
 
-  kind-key : (keys : List ColId) (rest : Columns) (c : ColId) → is_among keys c ≡ true → kind_at (key_columns keys ++ rest) c ≡ Some (key_kind c)
+  pub kind-key : (keys : List ColId) (rest : Columns) (c : ColId) → is_among keys c ≡ true → kind_at (key_columns keys ++ rest) c ≡ Some (key_kind c)
   kind-key [] rest c among = absurd (true≢false (sym among))
   kind-key (key ∷ keys) rest c among = by (key.0 == c.0) refl among (kind-key keys rest c)
     where
@@ -115,7 +115,7 @@ module _ (columns : Columns) (own_kind : Agg → Kind) where
       by true here among later = ap (λ d. Some (key_kind d)) (column-≡ key c here)
       by false here among later = later among
 
-  kind-own : (keys : List ColId) (rest : Columns) (c : ColId) → is_among keys c ≡ false → kind_at (key_columns keys ++ rest) c ≡ kind_at rest c
+  pub kind-own : (keys : List ColId) (rest : Columns) (c : ColId) → is_among keys c ≡ false → kind_at (key_columns keys ++ rest) c ≡ kind_at rest c
   kind-own [] rest c other = refl
   kind-own (key ∷ keys) rest c other = by (key.0 == c.0) other (kind-own keys rest c)
     where
@@ -212,7 +212,7 @@ plain-final k plain (Int n) is = is
 plain-final k plain (Text t) is = is
 plain-final k plain (Wide n) is = absurd (true≢false (sym plain ∙ ap (λ k. is_plain (Some k)) is))
 
-number-Int : (b : Bool) → kind_or_int (if b then Some kind.Int else None) ≡ kind.Int
+pub number-Int : (b : Bool) → kind_or_int (if b then Some kind.Int else None) ≡ kind.Int
 number-Int true = refl
 number-Int false = refl
 
@@ -295,11 +295,11 @@ module _ (columns : Columns) where
 
 -- ---- the three stages
 
-both : (a b : Bool) → (a && b) ≡ true → (a ≡ true) × (b ≡ true)
+pub both : (a b : Bool) → (a && b) ≡ true → (a ≡ true) × (b ≡ true)
 both true b hold = (refl, hold)
 both false b hold = absurd (true≢false (sym hold))
 
-each-typed : (test : Agg → Bool) (P : Agg → Type 0) → ((agg : Agg) → test agg ≡ true → P agg) → (aggs : List Agg) → list_all test aggs ≡ true → AllByRecursion P aggs
+pub each-typed : (test : Agg → Bool) (P : Agg → Type 0) → ((agg : Agg) → test agg ≡ true → P agg) → (aggs : List Agg) → list_all test aggs ≡ true → AllByRecursion P aggs
 each-typed test P each [] all = tt
 each-typed test P each (agg ∷ aggs) all = let split = both (test agg) (list_all test aggs) all in (each agg split.0, each-typed test P each aggs split.1)
 

@@ -18,3 +18,5 @@ pub mod FitLemmas
 pub mod MadeLaws
 -- small rows worked out by hand
 pub mod Rows
+-- final rows have the columns of the groups
+pub mod FinalLaws

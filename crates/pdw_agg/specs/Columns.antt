@@ -1,5 +1,6 @@
 -- The schemas of the rows that a grouping makes: its keys and a column for each aggregate, by rising numbers.
-use Rattle.std.specs.Prelude.{◌++◌, List, map}
+use Rattle.std.specs.List.{list_any}
+use Rattle.std.specs.Prelude.{⊤, ◌≡◌, ◌==◌, ◌++◌, false, List, [], ◌∷◌, map}
 use Rattle.pdw_algebra.specs.Schema.{kind_at, rising}
 use Rattle.pdw_algebra.specs.Shape.{aggregate_column, key_column, kind_or_int}
 use Rattle.pdw_algebra.specs.Types.{aggregate_kind}
@@ -45,3 +46,8 @@ final_column columns agg = (agg.out, final_kind agg.kind (kind_or_int (kind_at c
 -- the schema of the final rows of partial rows over some columns
 abbrev pub final_schema : List ColId → List Agg → Columns → Columns
 final_schema keys aggs columns = rising (map (key_column columns) keys ++ map (final_column columns) aggs)
+
+-- the columns of the aggregates differ from each other
+abbrev pub OutsDiffer : List Agg → Type 0
+OutsDiffer [] = ⊤
+OutsDiffer (agg ∷ aggs) = (list_any (λ other. agg.out.0 == other.out.0) aggs ≡ false) × OutsDiffer aggs
