@@ -5,7 +5,7 @@ use Rattle.std.specs.List.{AllByRecursion, flat_map}
 use Rattle.pdw_agg.proofs.NumberLemmas.{row_over-made}
 use Rattle.pdw_agg.proofs.StageLemmas.{finals-rows, partials-rows, read_rows, whole-rows}
 use Rattle.pdw_agg.specs.Columns.{final_column, final_kind, final_schema, grouped_schema, partial_kind, partial_schema}
-use Rattle.pdw_agg.specs.Grouping.{final_over, grouped_over, partial_over}
+use Rattle.pdw_agg.specs.Grouping.{IsPartialOver, final_over, grouped_over, partial_over}
 use Rattle.pdw_agg.specs.declared.stage.Stage.TheVariants.{Whole, Partial, Final}
 use Rattle.pdw_algebra.specs.Schema.{kind_at}
 use Rattle.pdw_algebra.specs.Shape.{aggregate_column, key_column, kind_or_int}
@@ -93,15 +93,13 @@ module _ (keys : List ColId) (aggs : List Agg) (columns : Columns) where
       sym (row_over-made keys aggs (key_column kept_schema) (final_column kept_schema) (λ c. refl) (λ agg. refl))
       ∙ row_over-made keys aggs (key_column columns) (aggregate_column columns) (λ c. refl) (λ agg. refl)
 
-  pub merged-groups : KeysApart keys aggs → (pairs : List Pair) → pairs ≢ [] → AllByRecursion IsKept pairs → (input partials : Rows)
-      → SameBag input (flat_map (λ pair. pair.0) pairs) → SameBag partials (flat_map (λ pair. pair.1) pairs)
-      → final_over keys aggs kept_schema partials ≡ grouped_over keys aggs columns input
-  merged-groups apart pairs some kept input partials whole rows =
+  pub merged-groups : KeysApart keys aggs → (input partials : Rows) → IsPartialOver keys aggs columns input partials → final_over keys aggs kept_schema partials ≡ grouped_over keys aggs columns input
+  merged-groups apart input partials over =
       let of : IsPartial keys aggs (map (cell columns) input) (map (cell kept_schema) partials) = record {
-        parts = map part_of pairs;
-        some = some-parts pairs some;
-        whole = SameBag-trans (SameBag-≡ (parts-together pairs)) (SameBag-map (cell columns) (SameBag-sym whole));
-        rows = SameBag-trans (SameBag-map (cell kept_schema) rows) (partials-together pairs kept);
+        parts = map part_of over.pairs;
+        some = some-parts over.pairs over.some;
+        whole = SameBag-trans (SameBag-≡ (parts-together over.pairs)) (SameBag-map (cell columns) over.whole);
+        rows = SameBag-trans (SameBag-map (cell kept_schema) over.rows) (partials-together over.pairs over.kept);
       } in
       ap (map (row_over (final_schema keys aggs kept_schema))) (final-partials keys aggs apart _ _ of)
       ∙ ap (λ of_row. map of_row (grouped keys aggs (map (cell columns) input))) final-as-grouped

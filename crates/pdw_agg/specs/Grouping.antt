@@ -1,6 +1,8 @@
 -- Local aggregation over positional rows.
-use Rattle.std.specs.Prelude.{List, map}
+use Rattle.std.specs.List.{AllByRecursion, flat_map}
+use Rattle.std.specs.Prelude.{◌≢◌, List, [], map}
 use Rattle.pdw_agg.specs.Columns.{final_schema, grouped_schema, partial_schema}
+use Rattle.pdw_base.specs.SameBag.{SameBag}
 use Rattle.pdw_base.specs.Schema.{Columns, cell, row_over}
 use Rattle.pdw_base.specs.declared.schema.ColId.{ColId}
 use Rattle.pdw_base.specs.declared.value.Value.{Value}
@@ -20,3 +22,12 @@ module _ (keys : List ColId) (aggs : List Agg) (columns : Columns) (rows : List 
   -- a row for each group of partial rows over some columns: its keys and the values of its aggregates
   abbrev pub final_over : List (List Value)
   final_over = map (row_over (final_schema keys aggs columns)) (final_rows keys aggs (map (cell columns) rows))
+
+-- the partial rows of one or more bags that add up to the input, each in any order
+pub record IsPartialOver (keys : List ColId) (aggs : List Agg) (columns : Columns) (input partials : List (List Value)) : Type 0 where
+  -- each bag, and what `partial` makes of it
+  pub pairs : List (List (List Value) × List (List Value))
+  pub some : pairs ≢ []
+  pub kept : AllByRecursion (λ pair. SameBag pair.1 (partial_over keys aggs columns pair.0)) pairs
+  pub whole : SameBag (flat_map (λ pair. pair.0) pairs) input
+  pub rows : SameBag partials (flat_map (λ pair. pair.1) pairs)

@@ -1,6 +1,6 @@
 pub mod Columns
+pub mod Grouping
+pub mod Fitting
 pub mod Running
 pub mod Stage
-pub mod Grouping
 pub mod Made
-pub mod Fitting

@@ -1,10 +1,9 @@
 //! The laws, each the contract of a function.
 
-ghost use Rattle.std.specs.List.{AllByRecursion, flat_map};
-ghost use Rattle.std.specs.Prelude.{◌≡◌, ◌≢◌, All, List, [], map};
+ghost use Rattle.std.specs.Prelude.{◌≡◌, All, List, map};
 ghost use Rattle.pdw_agg.specs.Columns.{OutsDiffer, final_schema, grouped_schema, partial_schema};
 ghost use Rattle.pdw_agg.specs.Fitting.{CanFinish, CanGroup};
-ghost use Rattle.pdw_agg.specs.Grouping.{final_over, grouped_over, partial_over};
+ghost use Rattle.pdw_agg.specs.Grouping.{IsPartialOver, final_over, grouped_over, partial_over};
 ghost use Rattle.pdw_base.specs.SameBag.{SameBag};
 ghost use Rattle.pdw_base.specs.Schema.{Columns, FitsColumns, cell};
 ghost use Rattle.pdw_base.specs.declared.schema.ColId.{ColId as Column};
@@ -13,10 +12,10 @@ ghost use Rattle.pdw_expr.specs.Rows.{grouped};
 ghost use Rattle.pdw_expr.specs.declared.agg.Agg.{Agg as Aggregate};
 ghost use Rattle.pdw_partial.specs.Partial.{KeysApart, final_rows, partial_rows};
 
-/// What is merged from the sum of the partial rows of any one or more bags is what is grouped over their sum: each pair has a
-/// bag and its partial rows, in any order. No aggregate's column is a key.
+/// What is merged from the partial rows of any one or more bags, all together, is what is grouped over the sum of the bags.
+/// No aggregate's column is a key.
 pub fn merged_partials_are_the_groups()
-    ensures { (keys : List Column) (aggs : List Aggregate) (columns : Columns) → KeysApart keys aggs → (pairs : List (List (List SqlValue) × List (List SqlValue))) → pairs ≢ [] → AllByRecursion (λ pair. SameBag pair.1 (partial_over keys aggs columns pair.0)) pairs → (input partials : List (List SqlValue)) → SameBag input (flat_map (λ pair. pair.0) pairs) → SameBag partials (flat_map (λ pair. pair.1) pairs) → final_over keys aggs (partial_schema keys aggs columns) partials ≡ grouped_over keys aggs columns input }
+    ensures { (keys : List Column) (aggs : List Aggregate) (columns : Columns) → KeysApart keys aggs → (input partials : List (List SqlValue)) → IsPartialOver keys aggs columns input partials → final_over keys aggs (partial_schema keys aggs columns) partials ≡ grouped_over keys aggs columns input }
 {}
 
 /// The rows of equal bags give one list of rows: the order of the input plays no part.
