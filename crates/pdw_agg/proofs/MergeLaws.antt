@@ -11,7 +11,7 @@ use Rattle.pdw_algebra.specs.Schema.{kind_at}
 use Rattle.pdw_algebra.specs.Shape.{aggregate_column, key_column, kind_or_int}
 use Rattle.pdw_algebra.specs.Types.{aggregate_kind}
 use Rattle.pdw_bag_laws.proofs.Groups.{SameBag-grouped}
-use Rattle.pdw_base.proofs.SameBagLaws.{SameBag-append, SameBag-map, SameBag-refl, SameBag-sym, SameBag-trans, SameBag-≡}
+use Rattle.pdw_base.proofs.SameBagLaws.{SameBag-append, SameBag-map, SameBag-refl, SameBag-trans, SameBag-≡}
 use Rattle.pdw_base.specs.SameBag.{SameBag}
 use Rattle.pdw_base.specs.Schema.{Columns, Env, cell, row_over}
 use Rattle.pdw_base.specs.declared.schema.ColId.{ColId}
