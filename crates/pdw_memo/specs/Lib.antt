@@ -1,2 +1,6 @@
--- what a memo is, and how many joins it has of a block
+-- what a memo is
 pub mod Memo
+-- how it is made
+pub mod Building
+-- what holds of every memo
+pub mod Laws

@@ -1,8 +1,10 @@
 //! The memo.
 
 ghost use Rattle.std.specs.Prelude.{◌≡◌};
+ghost use Rattle.pdw_memo.specs.Memo as spec;
 ghost use Rattle.pdw_memo.specs.Memo.{IsMemo};
 
+use crate::count::join_count;
 use pdw_groups::{BlockPart, Group};
 use sqlite_items::Items;
 use std::marker::Model;
@@ -54,5 +56,12 @@ impl Memo {
         ensures memo { IsMemo self.now }
     {
         self.blocks.as_slice()
+    }
+
+    /// How many join expressions the groups of a block have. It takes no memory.
+    pub fn join_count(&self, block: u32) -> u64
+        ensures { result ≡ spec.join_count block self.now.groups }
+    {
+        join_count(self.groups.as_slice(), block)
     }
 }

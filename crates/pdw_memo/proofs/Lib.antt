@@ -1,0 +1,14 @@
+-- the sizes of memos
+pub mod SoundParts
+pub mod Counts
+-- what nodes add
+pub mod Built
+pub mod LeafStep
+pub mod TreeStep
+-- how many joins there are
+pub mod MemoSizes
+pub mod CountSteps
+-- laws of every memo
+pub mod MemoMeans
+pub mod MemoColumns
+pub mod MemoRows

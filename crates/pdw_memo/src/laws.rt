@@ -1,0 +1,28 @@
+//! The laws of every memo.
+
+ghost use Rattle.std.specs.List.{AllByRecursion, slice_get};
+ghost use Rattle.std.specs.Prelude.{◌≡◌, ◌-◌, ℕ, List, Some, length};
+ghost use Rattle.pdw_algebra.specs.Within.{AllWithin};
+ghost use Rattle.pdw_base.specs.Schema.{Env};
+ghost use Rattle.pdw_catalog.specs.Database.{Database};
+ghost use Rattle.pdw_groups.specs.Meaning.{exactly};
+ghost use Rattle.pdw_groups.specs.Memo.{AdmitsAt, Contents, EachExprStands};
+ghost use Rattle.pdw_groups.specs.declared.group.Group.{Group as GroupIn};
+ghost use Rattle.pdw_memo.specs.Laws.{HasItsColumns, MakesNoKey, meanings_in};
+ghost use Rattle.pdw_memo.specs.Memo.{IsMemo};
+
+/// Each group of a memo has a meaning. Each of its expressions has children of smaller numbers and stands for the group: over
+/// all tables, of all bags that its children admit it makes a bag that the group admits. The last group means the tree.
+pub fn a_memo_means_its_tree()
+    ensures each { (contents : Contents) (memo : IsMemo contents) → length (meanings_in contents memo) ≡ length contents.groups }
+    ensures stands { (contents : Contents) (memo : IsMemo contents) (database : Database) → EachExprStands database (meanings_in contents memo) contents.groups }
+    ensures root { (contents : Contents) (memo : IsMemo contents) → slice_get (meanings_in contents memo) (length contents.groups - 1) ≡ Some (exactly memo.tree) }
+{}
+
+/// Rows of a bag that a group admits have NULL outside its schema, its interesting columns are columns of the schema, and no
+/// aggregate makes a key of its operator.
+pub fn a_memo_names_its_columns()
+    ensures rows { (contents : Contents) (memo : IsMemo contents) (database : Database) (number : ℕ) (group : GroupIn) → slice_get contents.groups number ≡ Some group → (bag : List Env) → AdmitsAt database (meanings_in contents memo) number bag → AllWithin group.schema bag }
+    ensures interesting { (contents : Contents) → IsMemo contents → AllByRecursion HasItsColumns contents.groups }
+    ensures keys { (contents : Contents) → IsMemo contents → AllByRecursion (λ group. AllByRecursion (λ expr. MakesNoKey expr.op) group.exprs) contents.groups }
+{}
