@@ -1,5 +1,7 @@
 -- the rows of all compute nodes
 pub mod Together
+-- what rows stand for is a matter of bags
+pub mod Alike
 -- filters by tests that agree, and by numbers
 pub mod Filters
 -- the seven moves

@@ -7,7 +7,6 @@ use Rattle.std.proofs.lemmas.List.{map-append}
 use Rattle.std.specs.List.{AllByRecursion, flat_map, list_any}
 use Rattle.pdw_algebra.proofs.AllLaws.{all-append, all-left, all-right}
 use Rattle.pdw_algebra.proofs.Products.{all-filter}
-use Rattle.pdw_bag_laws.proofs.Occurrence.{SameBag-list_any}
 use Rattle.pdw_base.specs.SameBag.{SameBag}
 use Rattle.pdw_base.specs.Schema.{Env}
 use Rattle.pdw_base.specs.declared.node.Node.TheVariants as node
@@ -21,6 +20,7 @@ use Rattle.pdw_expr.specs.Rows.{joined, meets}
 use Rattle.pdw_expr.specs.declared.agg.JoinKind.TheVariants as joins
 use Rattle.pdw_expr.specs.declared.agg.JoinKind.{JoinKind}
 use Rattle.pdw_expr.specs.declared.cond.Cond.{Cond}
+use Rattle.pdw_rules.proofs.Alike.{none-alike}
 use Rattle.pdw_rules.proofs.Together.{together-more}
 use Rattle.pdw_rules.specs.Rules.{is_full}
 use Rattle.pdw_rules.specs.Stands.{HasNone, PlacedRows, together}
@@ -66,22 +66,17 @@ module _ (c : ColId) where
   abbrev has_value : Env → Bool
   has_value row = not (is_null (row c))
 
-  none-test : (rows : List Env) → HasNone c rows → list_any has_value rows ≡ false
-  none-test [] none = refl
-  none-test (row ∷ rows) none = ap₂ (λ value rest. not (is_null value) || rest) none.0 (none-test rows none.1)
+  to-test : (rows : List Env) → HasNone c rows → AllByRecursion (λ (row : Env). has_value row ≡ false) rows
+  to-test [] none = tt
+  to-test (row ∷ rows) none = (ap (λ value. not (is_null value)) none.0, to-test rows none.1)
 
-  test-none : (rows : List Env) → list_any has_value rows ≡ false → HasNone c rows
-  test-none [] test = tt
-  test-none (row ∷ rows) test = by (not (is_null (row c))) refl test (test-none rows)
-    where
-      by : (is : Bool) → not (is_null (row c)) ≡ is → (is || list_any (λ r. not (is_null (r c))) rows) ≡ false
-          → (list_any (λ r. not (is_null (r c))) rows ≡ false → HasNone c rows) → HasNone c (row ∷ rows)
-      by true is test rest = absurd (true≢false test)
-      by false is test rest = (null-is (row c) is, rest test)
+  from-test : (rows : List Env) → AllByRecursion (λ (row : Env). has_value row ≡ false) rows → HasNone c rows
+  from-test [] none = tt
+  from-test (row ∷ rows) none = (null-is (row c) none.0, from-test rows none.1)
 
   -- in equal bags
   pub none-same : (rows others : List Env) → SameBag rows others → HasNone c others → HasNone c rows
-  none-same rows others same none = test-none rows (SameBag-list_any has_value same ∙ none-test others none)
+  none-same rows others same none = from-test rows (none-alike has_value rows others same (to-test others none))
 
 pub or_else-null : (value : Value) → or_else value Null ≡ value
 or_else-null Null = refl

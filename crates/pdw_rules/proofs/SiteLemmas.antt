@@ -42,14 +42,6 @@ module _ (n : ℕ) where
   pub at-hash : (c : ColId) (rows : PlacedRows) (bag : List Env) → SameBag (together n rows) bag → IsHashed n c rows → StandsFor n (Hash c) (made_at (Hash c) rows) bag
   at-hash c rows bag same hashed = (SameBag-trans (SameBag-≡ (together-lists n (made_at (Hash c) rows) rows (λ k less. refl))) same, hashed)
 
-  -- what rows stand for is a matter of bags
-  pub stands-same : (p : Prop) (rows : PlacedRows) (bag other : List Env) → SameBag bag other → StandsFor n p rows bag → StandsFor n p rows other
-  stands-same Spread rows bag other same stands = SameBag-trans stands same
-  stands-same (Hash c) rows bag other same stands = (SameBag-trans stands.0 same, stands.1)
-  stands-same Replicated rows bag other same stands = λ k less. SameBag-trans (stands k less) same
-  stands-same Single rows bag other same stands = (SameBag-trans stands.0 same, stands.1)
-  stands-same Control rows bag other same stands = SameBag-trans stands same
-
   -- ---- free changes
 
   pub free-stands : 1 ≤ n → (p q : Prop) → is_free p q ≡ true → (rows : PlacedRows) (bag : List Env) → StandsFor n p rows bag → StandsFor n q (made_at q rows) bag

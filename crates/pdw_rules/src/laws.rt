@@ -37,10 +37,14 @@ pub fn free_changes_keep_rows()
     ensures inside { (p : Property) (rows : PlacedRows) → IsInside p (made_at p rows) }
 {}
 
-/// Under every property what is returned to the client is the bag that the rows stand for, which is one up to its order.
+/// What rows stand for is a matter of bags: rows that are equal bags at each node stand for each equal bag.
+pub fn standing_sees_no_order()
+    ensures { (n : ℕ) (bag other : List Env) → SameBag bag other → (rows others : PlacedRows) → ((place : AnyNode) → SameBag (rows place) (others place)) → (p : Property) → StandsFor n p rows bag → StandsFor n p others other }
+{}
+
+/// Under every property what is returned to the client is the bag that the rows stand for.
 pub fn returned_rows_are_the_bag()
-    ensures same { (n : ℕ) (p : Property) (rows : PlacedRows) (bag other : List Env) → SameBag bag other → StandsFor n p rows bag → StandsFor n p rows other }
-    ensures returned { (n : ℕ) → 1 ≤ n → (p : Property) (rows : PlacedRows) (bag : List Env) → StandsFor n p rows bag → SameBag (returned n p rows) bag }
+    ensures { (n : ℕ) → 1 ≤ n → (p : Property) (rows : PlacedRows) (bag : List Env) → StandsFor n p rows bag → SameBag (returned n p rows) bag }
 {}
 
 /// What a scan reads at each node of a sound appliance stands for what it reads of the whole table: by the hash of the column
