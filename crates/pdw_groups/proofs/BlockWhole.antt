@@ -20,7 +20,7 @@ use Rattle.pdw_groups.specs.declared.block.Level.TheVariants as level
 use Rattle.pdw_parts.specs.Part.{chosen, is_inside}
 use lib.Count.{ones}
 
-filter-all_pass : {X : Type 0} (test : X → Bool) (xs : List X) → list_all test xs ≡ true → filter test xs ≡ xs
+pub filter-all_pass : {X : Type 0} (test : X → Bool) (xs : List X) → list_all test xs ≡ true → filter test xs ≡ xs
 filter-all_pass test [] all = refl
 filter-all_pass test (x ∷ xs) all =
     let parts = and_parts (test x) (list_all test xs) all in
@@ -40,7 +40,7 @@ last_child block level conds leaves first = record {
 module _ (block : ℕ) (l : Level) (conds : List Cond) (first : ℕ) where
   -- ---- one leaf, which has a conjunct
 
-  none-kept : filter (has_set l) (below (2 ^ 1)) ≡ []
+  pub none-kept : filter (has_set l) (below (2 ^ 1)) ≡ []
   unfolding ones
   none-kept = by l
     where
@@ -50,7 +50,7 @@ module _ (block : ℕ) (l : Level) (conds : List Cond) (first : ℕ) where
       by level.Written = refl
 
   module _ (leaf : BlockLeaf) (all : AllInside (leaf.columns ∷ []) conds) (some : is_empty conds ≡ false) where
-    all-inside_leaf : inside_leaf block conds leaf ≡ conds
+    pub all-inside_leaf : inside_leaf block conds leaf ≡ conds
     all-inside_leaf = filter-all_pass (is_inside leaf.columns) conds (ap (λ columns. list_all (is_inside columns) conds) (sym (append-nil leaf.columns)) ∙ all)
 
     one-part : one_or (chosen (set_of (2 ^ 1 - 1)) (single_parts block conds first (leaf ∷ []))) (record { number = set_number block l conds (leaf ∷ []) first 1; means = exactly (part_tree block l conds (leaf ∷ []) first (set_of 1)) })
@@ -117,7 +117,7 @@ module _ (block : ℕ) (l : Level) (conds : List Cond) (first : ℕ) where
 
 -- ---- any block
 
-fitting : (count : ℕ) (conds : List Cond) → leaves_fit count conds ≡ true → (1 ≤ count) × (count ≡ 1 → is_empty conds ≡ false)
+pub fitting : (count : ℕ) (conds : List Cond) → leaves_fit count conds ≡ true → (1 ≤ count) × (count ≡ 1 → is_empty conds ≡ false)
 fitting count conds fits =
     let one = and_parts (leb 1 count) (leb count MOST_LEAVES && not ((count == 1) && is_empty conds)) fits in
     let two = and_parts (leb count MOST_LEAVES) (not ((count == 1) && is_empty conds)) one.1 in

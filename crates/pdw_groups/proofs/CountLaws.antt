@@ -49,7 +49,7 @@ chosen-whole (x ∷ xs) set all =
 pub whole-set : (k i : ℕ) → i < k → set_of (2 ^ k - 1) i ≡ true
 whole-set k i less = ap (λ n. n == 1) (bit_at_ones k i less)
 
-power-ones : (k : ℕ) → count_ones (2 ^ k) ≡ 1
+pub power-ones : (k : ℕ) → count_ones (2 ^ k) ≡ 1
 unfolding ones
 power-ones zero = refl
 power-ones (suc k) =

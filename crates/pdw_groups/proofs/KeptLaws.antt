@@ -17,7 +17,7 @@ use Rattle.pdw_groups.specs.Columns.{interesting_in}
 use Rattle.pdw_groups.specs.Block.{BlockLeaf, block_groups, columns_of_leaves, inside_leaf, join_of, one_or, part_of, second_group, second_groups, seconds, set_group, single_part, single_parts}
 use Rattle.pdw_groups.specs.Group.{id_of, kept_expr, kept_group}
 use Rattle.pdw_groups.specs.Level.{below, has_set, is_left, lefts, set_of}
-use Rattle.pdw_groups.specs.Sets.{all_flags, flags, join_at, kept_between, kept_block, kept_part, kept_seconds, kept_set, kept_single, kept_singles, one_if, schemas, second_if, side_of}
+use Rattle.pdw_groups.specs.Sets.{all_flags, flags, join_at, kept_between, kept_block, kept_part, kept_seconds, kept_set, kept_sets, kept_single, kept_singles, one_if, schemas, second_if, side_of}
 use Rattle.pdw_groups.specs.declared.block.Level.{Level}
 use Rattle.pdw_groups.specs.declared.key.GroupId.{GroupId}
 use Rattle.pdw_groups.specs.declared.key.GroupKey.TheVariants as key
@@ -152,11 +152,14 @@ module _ (useful : List ColId) (block : ℕ) (level : Level) (conds : List Cond)
         (map-kept _ (λ left. kept_expr (join_of block level conds leaves first mask left)) (is_left level mask) (λ left. left < mask) join-kept (below mask) (below-less mask mask (omega arith))
         ∙ sym (map-map kept_expr (join_of block level conds leaves first mask) (lefts level mask)))
 
-  pub block-kept : kept_block useful block level those conds first ≡ map (kept_group useful) (block_groups block level conds leaves first)
-  block-kept =
-      ap₂ (λ a b. a ++ b) (seconds-kept useful block conds 0 leaves)
-      (map-kept (kept_set useful block level those conds singles after) (λ mask. kept_group useful (set_group block level conds leaves first mask)) (has_set level) (λ mask. mask < 2 ^ length those)
+  pub sets-kept : kept_sets useful block level those conds singles after (2 ^ length those) ≡ map (kept_group useful) (map (set_group block level conds leaves first) (filter (has_set level) (below (2 ^ length leaves))))
+  sets-kept =
+      map-kept (kept_set useful block level those conds singles after) (λ mask. kept_group useful (set_group block level conds leaves first mask)) (has_set level) (λ mask. mask < 2 ^ length those)
       (λ mask inside is. set-kept mask inside) (below (2 ^ length those)) (below-less (2 ^ length those) (2 ^ length those) (omega arith))
       ∙ ap (λ n. map (λ mask. kept_group useful (set_group block level conds leaves first mask)) (filter (has_set level) (below (2 ^ n)))) (length-map leaves side_of)
-      ∙ sym (map-map (kept_group useful) (set_group block level conds leaves first) (filter (has_set level) (below (2 ^ length leaves)))))
+      ∙ sym (map-map (kept_group useful) (set_group block level conds leaves first) (filter (has_set level) (below (2 ^ length leaves))))
+
+  pub block-kept : kept_block useful block level those conds first ≡ map (kept_group useful) (block_groups block level conds leaves first)
+  block-kept =
+      ap₂ (λ a b. a ++ b) (seconds-kept useful block conds 0 leaves) sets-kept
       ∙ sym (map-append (kept_group useful) (seconds block level conds leaves first) (map (set_group block level conds leaves first) (filter (has_set level) (below (2 ^ length leaves)))))

@@ -135,7 +135,7 @@ module _ (tables : Tables) (levels : ℕ → Level) where
   all-inside leaves [] uses = refl
   all-inside leaves (x ∷ conds) uses = ap₂ (λ a b. a && b) (used-inside leaves (cond_columns x) uses.0) (all-inside leaves conds uses.1)
 
-  block-inside : (leaves : List Tree) (conds : List Cond) (before : Before) → BlockParts (map (shape_of tables) leaves) conds
+  pub block-inside : (leaves : List Tree) (conds : List Cond) (before : Before) → BlockParts (map (shape_of tables) leaves) conds
       → AllInside (map (λ (leaf : BlockLeaf). leaf.columns) (block_leaves tables levels (map (node_of tables levels) leaves) before)) conds
   block-inside leaves conds before parts =
       subst (λ columns. AllInside columns conds) (sym (leaves-schemas leaves before))

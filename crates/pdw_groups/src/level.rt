@@ -12,7 +12,8 @@ pub fn is_one(mask: u32) -> bool
     mask.count_ones() == 1
 }
 
-fn is_several(mask: u32) -> bool
+/// Whether a set has two leaves or more.
+pub fn is_several(mask: u32) -> bool
     ensures { result ≡ spec.is_several mask }
 {
     mask.count_ones() >= 2

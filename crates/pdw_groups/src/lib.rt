@@ -20,6 +20,8 @@ pub use columns::{hash_in, interesting_in, is_replicated, useful_columns};
 pub use group::{Expr, Group};
 pub use key::{GroupId, GroupKey};
 pub use laws::each_expression_stands_for_its_group;
+pub use level::is_several;
 pub use op::Op;
+pub use set_groups::add_sets;
 pub use sets::Side;
 pub use singles::group_with;

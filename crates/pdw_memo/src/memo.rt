@@ -64,4 +64,13 @@ impl Memo {
     {
         join_count(self.groups.as_slice(), block)
     }
+
+    /// The groups and the blocks by number. It takes no memory.
+    pub fn into_parts(self) -> (Items<Group>, Items<BlockPart>)
+        ensures parts { result ≡ (self.groups, self.blocks) }
+        ensures memo { IsMemo self }
+    {
+        let Memo { groups, blocks } = self;
+        (groups, blocks)
+    }
 }
