@@ -1,0 +1,2 @@
+-- the rows that a plan gives at each node
+pub mod Given

@@ -1,0 +1,2 @@
+-- folds over plans, and induction over plans
+pub mod PlanFolds
