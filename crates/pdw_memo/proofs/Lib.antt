@@ -9,6 +9,9 @@ pub mod TreeStep
 pub mod MemoSizes
 pub mod CountSteps
 -- laws of every memo
+pub mod EachGroup
+pub mod MemoScans
+pub mod MemoSides
 pub mod MemoMeans
 pub mod MemoColumns
 pub mod MemoRows

@@ -1,9 +1,9 @@
 -- The rows of a bag that a group of a memo admits lie within the group's schema.
-use Rattle.std.proofs.Common.{◌≡◌, ℕ, zero, suc, ◌+◌, ◌^◌, ◌==◌, ◌||◌, Bool, true, false, true≢false, List, [], ◌∷◌, ◌++◌, map, filter, length, Option, Some, if◌then◌else◌, refl, sym, ap, subst, ◌∙◌, arith, append-nil}
-use Rattle.std.specs.List.{AllByRecursion, flat_map, list_any, slice_get}
+use Rattle.std.proofs.Common.{◌≡◌, ℕ, suc, ◌+◌, ◌^◌, ◌==◌, ◌||◌, Bool, true, false, true≢false, List, [], ◌∷◌, ◌++◌, map, filter, length, Some, if◌then◌else◌, refl, sym, ap, subst, ◌∙◌, arith, append-nil}
+use Rattle.std.specs.List.{AllByRecursion, flat_map, slice_get}
 use Rattle.std.specs.Option.{option_map}
 use Rattle.std.proofs.lemmas.List.Folds.{flat_map-map}
-use Rattle.std.proofs.lemmas.Option.{slice_get-map, slice_get_within}
+use Rattle.std.proofs.lemmas.Option.{slice_get-map}
 use Rattle.pdw_algebra.proofs.AllLaws.{all-append}
 use Rattle.pdw_algebra.proofs.PartLemmas.{columns-block}
 use Rattle.pdw_algebra.proofs.RowsWithin.{keys-there, rows-within}
@@ -31,7 +31,7 @@ use Rattle.pdw_groups.proofs.OrderLaws.{found}
 use Rattle.pdw_groups.proofs.SchemaLaws.{has_number-all, has_number-rising}
 use Rattle.pdw_groups.specs.Block.{BlockLeaf, block_groups, inside_leaf, second_group, second_groups, seconds, set_group}
 use Rattle.pdw_groups.specs.Columns.{hash_in, partial_column, replicated_in, useful_columns}
-use Rattle.pdw_groups.specs.Group.{ExprOf, GroupOf, kept_group}
+use Rattle.pdw_groups.specs.Group.{GroupOf, kept_group}
 use Rattle.pdw_groups.specs.Level.{below, has_set, set_of}
 use Rattle.pdw_groups.specs.Meaning.{Admits, Meaning, exactly, partial_of}
 use Rattle.pdw_groups.specs.Memo.{AdmitsAt, AdmitsIf, Contents, at_first, groups_of}
@@ -40,6 +40,7 @@ use Rattle.pdw_groups.specs.declared.block.Level.{Level}
 use Rattle.pdw_groups.specs.declared.group.Group.{Group}
 use Rattle.pdw_groups.specs.declared.op.Op.{Op}
 use Rattle.pdw_groups.specs.declared.op.Op.TheVariants as op
+use Rattle.pdw_memo.proofs.EachGroup.{all-at, some-same}
 use Rattle.pdw_memo.specs.Laws.{meanings_in}
 use Rattle.pdw_memo.specs.Memo.{IsMemo}
 use Rattle.pdw_partial.specs.Partial.{partial_cells, partial_row, partial_rows}
@@ -121,7 +122,7 @@ module _ (columns : Columns) (keys : List ColId) (aggs : List Agg) where
 -- ---- the columns of what a group means
 
 module _ (tables : Tables) where
-  abbrev columns_by : Meaning → Columns
+  abbrev pub columns_by : Meaning → Columns
   columns_by (exactly t) = columns_of tables t
   columns_by (partial_of keys aggs t) = map (key_column (rising (columns_of tables t))) keys ++ map (partial_column (rising (columns_of tables t))) aggs
 
@@ -132,7 +133,7 @@ module _ (tables : Tables) where
       within-same (map (key_column columns) keys ++ map (partial_column columns) aggs) bag (flat_map (partial_rows keys aggs) partial.parts) partial.rows (partials-within columns keys aggs partial.parts)
 
   -- a group's schema has the columns of what the group means
-  abbrev Names : GroupOf → Type 0
+  abbrev pub Names : GroupOf → Type 0
   Names group = (c : ColId) → has_number c group.schema ≡ has_number c (columns_by group.means)
 
   abbrev Named : Node → Type 0
@@ -148,7 +149,7 @@ module _ (tables : Tables) where
 
   -- ---- blocks
 
-  abbrev IsRisen : BlockLeaf → Type 0
+  abbrev pub IsRisen : BlockLeaf → Type 0
   IsRisen leaf = leaf.columns ≡ rising (columns_of tables leaf.tree)
 
   second-named : (block place : ℕ) (leaf : BlockLeaf) (inside : List Cond) → IsRisen leaf → AllByRecursion Names (second_group block place leaf inside)
@@ -170,7 +171,7 @@ module _ (tables : Tables) where
   risen-columns (leaf ∷ leaves) all = (λ i. all.0 i ∷ risen-columns leaves all.1 i)
 
   -- the columns of a set of leaves
-  set-columns : (set : LeafSet) (leaves : List BlockLeaf) (conds : List Cond) → AllByRecursion IsRisen leaves → (c : ColId)
+  pub set-columns : (set : LeafSet) (leaves : List BlockLeaf) (conds : List Cond) → AllByRecursion IsRisen leaves → (c : ColId)
       → has_number c (columns_in set (map (λ (leaf : BlockLeaf). leaf.columns) leaves)) ≡ has_number c (columns_of tables (tree.Block (chosen set (map (λ (leaf : BlockLeaf). leaf.tree) leaves)) conds))
   set-columns set leaves conds all c =
       let trees = map (λ (leaf : BlockLeaf). leaf.tree) leaves in
@@ -209,7 +210,7 @@ module _ (tables : Tables) where
         all-append Names (child.groups before) (grouping_groups tables levels keys aggs child before) (holds before)
         (λ c. has_number-rising c (map (key_column columns) keys ++ map (partial_column columns) aggs), (λ c. has_number-rising c (columns_of tables (tree.GroupBy keys aggs child.tree)), tt))
 
-    leaves-risen : (nodes : List Node) (before : Before) → AllByRecursion IsRisen (block_leaves tables levels nodes before)
+    pub leaves-risen : (nodes : List Node) (before : Before) → AllByRecursion IsRisen (block_leaves tables levels nodes before)
     leaves-risen [] before = tt
     leaves-risen (node ∷ nodes) before = (refl, leaves-risen nodes (passed before node))
 
@@ -241,18 +242,10 @@ module _ (tables : Tables) where
       group = λ keys aggs child holds. subst Named (sym (fold-group (node_step tables levels) keys aggs child)) (grouping-named keys aggs (steps child) holds);
     }
 
-    tree-named : (t : Tree) → TreeNamed t
+    pub tree-named : (t : Tree) → TreeNamed t
     tree-named = by_trees TreeNamed cases
 
 -- ---- memos
-
-some-same : {X : Type 0} (a b : X) → Some a ≡ Some b → a ≡ b
-some-same a b same = cc
-
-all-at : {X : Type 0} (P : X → Type 0) (xs : List X) → AllByRecursion P xs → (i : ℕ) (x : X) → slice_get xs i ≡ Some x → P x
-all-at P [] all i x there = absurd (omega (arith, slice_get_within [] i x there))
-all-at P (y ∷ xs) all zero x there = subst P (some-same y x there) all.0
-all-at P (y ∷ xs) all (suc i) x there = all-at P xs all.1 i x there
 
 pub memo-within : (contents : Contents) (memo : IsMemo contents) (database : Database) (number : ℕ) (group : Group) → slice_get contents.groups number ≡ Some group
     → (bag : List Env) → AdmitsAt database (meanings_in contents memo) number bag → AllWithin group.schema bag

@@ -8,7 +8,7 @@ ghost use Rattle.pdw_catalog.specs.Database.{Database};
 ghost use Rattle.pdw_groups.specs.Meaning.{exactly};
 ghost use Rattle.pdw_groups.specs.Memo.{AdmitsAt, Contents, EachExprStands};
 ghost use Rattle.pdw_groups.specs.declared.group.Group.{Group as GroupIn};
-ghost use Rattle.pdw_memo.specs.Laws.{HasItsColumns, MakesNoKey, meanings_in};
+ghost use Rattle.pdw_memo.specs.Laws.{HasApartSides, HasItsColumns, MakesNoKey, OfEachExpr, ReadsItsTable, meanings_in};
 ghost use Rattle.pdw_memo.specs.Memo.{IsMemo};
 
 /// Each group of a memo has a meaning. Each of its expressions has children of smaller numbers and stands for the group: over
@@ -25,4 +25,15 @@ pub fn a_memo_names_its_columns()
     ensures rows { (contents : Contents) (memo : IsMemo contents) (database : Database) (number : ℕ) (group : GroupIn) → slice_get contents.groups number ≡ Some group → (bag : List Env) → AdmitsAt database (meanings_in contents memo) number bag → AllWithin group.schema bag }
     ensures interesting { (contents : Contents) → IsMemo contents → AllByRecursion HasItsColumns contents.groups }
     ensures keys { (contents : Contents) → IsMemo contents → AllByRecursion (λ group. AllByRecursion (λ expr. MakesNoKey expr.op) group.exprs) contents.groups }
+{}
+
+/// A join of a memo has two sides, which are groups whose schemas have no column number in common.
+pub fn a_joins_sides_are_apart()
+    ensures { (contents : Contents) → IsMemo contents → OfEachExpr contents.groups (λ expr. HasApartSides contents.groups expr.op expr.children) }
+{}
+
+/// A scan of a memo has no child and reads a table of the memo's catalogue: its rows are placed as the table's are, and the
+/// columns that it reads have different numbers.
+pub fn a_memos_scans_are_of_its_tables()
+    ensures { (contents : Contents) (memo : IsMemo contents) → OfEachExpr contents.groups (λ expr. ReadsItsTable memo.tables expr.op expr.children) }
 {}
