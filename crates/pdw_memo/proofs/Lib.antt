@@ -12,6 +12,7 @@ pub mod CountSteps
 pub mod EachGroup
 pub mod MemoScans
 pub mod MemoSides
+pub mod MemoDiffers
 pub mod MemoMeans
 pub mod MemoColumns
 pub mod MemoRows

@@ -35,6 +35,10 @@ MakesNoKey _ = ⊤
 abbrev pub OfEachExpr : List Group → (Expr → Type 0) → Type 0
 OfEachExpr groups P = (number : ℕ) (group : Group) → slice_get groups number ≡ Some group → AllByRecursion P group.exprs
 
+-- no two expressions of a group have the same children
+abbrev pub HasDifferentChildren : Group → Type 0
+HasDifferentChildren group = AllPairs (λ a b. a.children ≢ b.children) group.exprs
+
 -- ---- joins
 
 -- the groups of two numbers have no column in common

@@ -8,7 +8,7 @@ ghost use Rattle.pdw_catalog.specs.Database.{Database};
 ghost use Rattle.pdw_groups.specs.Meaning.{exactly};
 ghost use Rattle.pdw_groups.specs.Memo.{AdmitsAt, Contents, EachExprStands};
 ghost use Rattle.pdw_groups.specs.declared.group.Group.{Group as GroupIn};
-ghost use Rattle.pdw_memo.specs.Laws.{HasApartSides, HasItsColumns, MakesNoKey, OfEachExpr, ReadsItsTable, meanings_in};
+ghost use Rattle.pdw_memo.specs.Laws.{HasApartSides, HasDifferentChildren, HasItsColumns, MakesNoKey, OfEachExpr, ReadsItsTable, meanings_in};
 ghost use Rattle.pdw_memo.specs.Memo.{IsMemo};
 
 /// Each group of a memo has a meaning. Each of its expressions has children of smaller numbers and stands for the group: over
@@ -36,4 +36,9 @@ pub fn a_joins_sides_are_apart()
 /// columns that it reads have different numbers.
 pub fn a_memos_scans_are_of_its_tables()
     ensures { (contents : Contents) (memo : IsMemo contents) → OfEachExpr contents.groups (λ expr. ReadsItsTable memo.tables expr.op expr.children) }
+{}
+
+/// No two expressions of a group have the same children, in their order.
+pub fn expressions_of_a_group_differ()
+    ensures { (contents : Contents) → IsMemo contents → AllByRecursion HasDifferentChildren contents.groups }
 {}
