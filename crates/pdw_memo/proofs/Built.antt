@@ -1,11 +1,9 @@
 -- What is made of the parts of a tree is what the tree's node adds.
-use Rattle.std.proofs.Common.{◌≡◌, ℕ, suc, ◌+◌, ◌-◌, ◌*◌, ◌^◌, ◌<◌, ◌≤◌, List, [], ◌∷◌, ◌++◌, length, map, fold, sum, Option, refl, sym, ap, ap₂, subst, ◌∙◌, arith, length-append, append-nil, append_assoc}
+use Rattle.std.proofs.Common.{◌≡◌, ℕ, ◌+◌, ◌-◌, ◌<◌, ◌≤◌, List, [], ◌∷◌, ◌++◌, length, map, fold, sum, Option, refl, sym, ap, ap₂, ◌∙◌, arith, length-append, append-nil, append_assoc}
 use Rattle.std.proofs.lemmas.List.{length-map, map-append}
-use Rattle.std.proofs.lemmas.Simd.{map-map}
 use Rattle.pdw_algebra.proofs.TreeFolds.{fold-block, fold-filter, fold-group, fold-join, fold-project, fold-scan}
 use Rattle.pdw_algebra.specs.declared.tree.Tree.{Tree}
 use Rattle.pdw_algebra.specs.declared.tree.Tree.TheVariants as tree
-use Rattle.pdw_base.specs.Schema.{Columns}
 use Rattle.pdw_base.specs.declared.schema.ColId.{ColId}
 use Rattle.pdw_catalog.specs.Catalog.{Tables, table_named}
 use Rattle.pdw_expr.specs.declared.agg.Agg.{Agg}
@@ -14,7 +12,7 @@ use Rattle.pdw_expr.specs.declared.cond.Cond.{Cond}
 use Rattle.pdw_expr.specs.declared.scalar.Scalar.{Scalar}
 use Rattle.pdw_groups.proofs.KeptLaws.{block-kept}
 use Rattle.pdw_groups.proofs.NodeTree.{node-tree}
-use Rattle.pdw_groups.specs.Block.{BlockLeaf, block_groups}
+use Rattle.pdw_groups.specs.Block.{block_groups}
 use Rattle.pdw_groups.specs.Columns.{hash_in, partial_schema, replicated_in}
 use Rattle.pdw_groups.specs.Group.{GroupOf, id_of, kept_group}
 use Rattle.pdw_groups.specs.Meaning.{exactly}
@@ -22,7 +20,6 @@ use Rattle.pdw_groups.specs.Memo.{all_written}
 use Rattle.pdw_groups.specs.Node.{Before, Node, block_leaves, block_node, groups_in_turn, grouping_groups, grouping_node, node_step, operator_node, operators_in, own_block_groups, own_group, own_in_turn, own_part, parts_in_turn, passed, passed_all, whole_group}
 use Rattle.pdw_groups.specs.Sets.{side_of}
 use Rattle.pdw_groups.specs.declared.block.Level.TheVariants as level
-use Rattle.pdw_groups.specs.declared.group.Expr.{Expr}
 use Rattle.pdw_groups.specs.declared.group.Group.{Group}
 use Rattle.pdw_groups.specs.declared.key.GroupId.{GroupId}
 use Rattle.pdw_groups.specs.declared.key.GroupKey.TheVariants as key

@@ -8,9 +8,8 @@ use Rattle.pdw_algebra.specs.declared.tree.Tree.{Tree}
 use Rattle.pdw_base.proofs.Steps.{drop-one_more}
 use Rattle.pdw_base.specs.declared.schema.ColId.{ColId}
 use Rattle.pdw_catalog.specs.Catalog.{Tables}
-use Rattle.pdw_groups.specs.Block.{BlockLeaf}
 use Rattle.pdw_groups.specs.Memo.{all_written}
-use Rattle.pdw_groups.specs.Node.{Before, Node, block_leaves, own_group, passed}
+use Rattle.pdw_groups.specs.Node.{Before, block_leaves, own_group, passed}
 use Rattle.pdw_groups.specs.Sets.{side_of}
 use Rattle.pdw_groups.specs.declared.sets.Side.{Side}
 use Rattle.pdw_memo.proofs.Built.{last-own, made-after, room-after, room-less, same-tree, some-after}

@@ -1,9 +1,9 @@
 -- In every memo interesting columns are columns of their groups, and no aggregate makes a key.
-use Rattle.std.proofs.Common.{◌≡◌, ℕ, suc, ◌==◌, ◌||◌, ◌^◌, Bool, true, false, true≢false, cond, List, [], ◌∷◌, ◌++◌, map, filter, length, Option, refl, sym, ap, subst, ◌∙◌, arith, tests}
+use Rattle.std.proofs.Common.{◌≡◌, ℕ, suc, ◌==◌, ◌||◌, ◌^◌, Bool, true, false, List, [], ◌∷◌, map, filter, length, refl, sym, ap, subst, arith, tests}
 use Rattle.std.specs.List.{AllByRecursion, list_any}
 use Rattle.pdw_algebra.proofs.AllLaws.{all-append, all-map}
 use Rattle.pdw_algebra.proofs.TreeFolds.{Inductive, by_trees, fold-block, fold-filter, fold-group, fold-join, fold-project, fold-scan}
-use Rattle.pdw_algebra.proofs.WellFormedParts.{BlockParts, IsSound, keys-apart, sound-block, sound-child, sound-filter, sound-join, sound-project, sound-tree}
+use Rattle.pdw_algebra.proofs.WellFormedParts.{IsSound, keys-apart, sound-block, sound-child, sound-filter, sound-join, sound-project, sound-tree}
 use Rattle.pdw_algebra.specs.Shape.{Shape, has_number, shape_of, shape_step}
 use Rattle.pdw_algebra.specs.declared.tree.Tree.{Tree}
 use Rattle.pdw_algebra.specs.declared.tree.Tree.TheVariants as tree

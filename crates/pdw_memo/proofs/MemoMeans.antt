@@ -1,5 +1,5 @@
 -- In every memo each expression stands for its group, and the last group means the tree.
-use Rattle.std.proofs.Common.{◌≡◌, ◌-◌, List, length, map, Some, sym, ap, subst, ◌∙◌}
+use Rattle.std.proofs.Common.{◌≡◌, ◌-◌, length, Some, sym, ap, subst, ◌∙◌}
 use Rattle.std.specs.List.{slice_get}
 use Rattle.std.proofs.lemmas.List.{length-map}
 use Rattle.pdw_catalog.specs.Database.{Database}

@@ -1,10 +1,10 @@
 -- A memo has few groups, each of few expressions.
-use Rattle.std.proofs.Common.{◌≡◌, ℕ, ◌+◌, ◌*◌, ◌^◌, ◌<◌, ◌≤◌, List, length, map, sym, subst, arith}
+use Rattle.std.proofs.Common.{◌^◌, ◌<◌, ◌≤◌, length, sym, subst, arith}
 use Rattle.std.specs.List.{AllByRecursion}
 use Rattle.std.proofs.lemmas.List.{length-map}
 use Rattle.pdw_groups.specs.Columns.{useful_columns}
-use Rattle.pdw_groups.specs.Group.{GroupOf, kept_expr, kept_group}
-use Rattle.pdw_groups.specs.Memo.{Contents, at_first, groups_of, memo_of}
+use Rattle.pdw_groups.specs.Group.{kept_expr, kept_group}
+use Rattle.pdw_groups.specs.Memo.{Contents, at_first, groups_of}
 use Rattle.pdw_groups.specs.declared.group.Group.{Group}
 use Rattle.pdw_memo.proofs.Counts.{IsFew, map-all, tree-counted}
 use Rattle.pdw_memo.specs.Memo.{IsMemo}

@@ -1,9 +1,9 @@
 -- What a tree's children leave for its own groups, and what these make of the whole.
-use Rattle.std.proofs.Common.{◌≡◌, ℕ, suc, ◌+◌, ◌^◌, ◌<◌, ◌≤◌, true, List, [], ◌∷◌, length, map, fold, sum, Option, refl, sym, ap, ap₂, subst, ◌∙◌, arith}
+use Rattle.std.proofs.Common.{◌≡◌, ℕ, suc, ◌+◌, ◌^◌, ◌<◌, ◌≤◌, true, List, [], ◌∷◌, length, map, fold, sum, Option, sym, ap, ap₂, subst, ◌∙◌, arith}
 use Rattle.std.specs.List.{list_all}
 use Rattle.std.proofs.lemmas.List.{length-map}
 use Rattle.pdw_algebra.proofs.TreeFolds.{fold-block, fold-filter, fold-group, fold-join, fold-project}
-use Rattle.pdw_algebra.specs.Shape.{Shape, leaves_fit, shape_of}
+use Rattle.pdw_algebra.specs.Shape.{Shape, shape_of}
 use Rattle.pdw_algebra.specs.declared.tree.Tree.{Tree}
 use Rattle.pdw_algebra.specs.declared.tree.Tree.TheVariants as tree
 use Rattle.pdw_base.specs.declared.schema.ColId.{ColId}
@@ -15,9 +15,7 @@ use Rattle.pdw_expr.specs.declared.scalar.Scalar.{Scalar}
 use Rattle.pdw_groups.specs.Memo.{all_written}
 use Rattle.pdw_groups.specs.Node.{block_leaves}
 use Rattle.pdw_groups.specs.Sets.{side_of}
-use Rattle.pdw_groups.specs.declared.group.Expr.{Expr}
 use Rattle.pdw_groups.specs.declared.key.GroupId.{GroupId}
-use Rattle.pdw_groups.specs.declared.op.Op.{Op}
 use Rattle.pdw_groups.specs.declared.op.Op.TheVariants as op
 use Rattle.pdw_groups.specs.declared.sets.Side.{Side}
 use Rattle.pdw_memo.proofs.Built.{all-built, filter-built, group-built, join-built, project-built, room-after, room-in_turn, room-less, some-after}

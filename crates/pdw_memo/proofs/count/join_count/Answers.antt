@@ -1,4 +1,4 @@
-use Rattle.std.proofs.Common.{◌≡◌, ◌<◌, ◌≤◌, ap, subst, sym, arith, length}
+use Rattle.std.proofs.Common.{◌≤◌, arith, length}
 use Rattle.pdw_groups.specs.declared.group.Group.{Group}
 use Rattle.pdw_memo.proofs.CountSteps.{all-at, count-next, few-joins}
 use Rattle.pdw_memo.proofs.count.join_count.Goals as goal

@@ -1,4 +1,4 @@
-use Rattle.std.proofs.Common.{◌≡◌, ◌∙◌, sym, ap, arith}
+use Rattle.std.proofs.Common.{◌∙◌, arith}
 use Rattle.pdw_groups.proofs.ColumnLemmas.{OnOk-map}
 use Rattle.pdw_memo.proofs.LeafStep.{leaf-less, nodes-next, room-leaf, room-next, room-none, sides-next, some-next, sound-leaf, sound-rest}
 use Rattle.pdw_memo.proofs.TreeStep.{after-child, after-right, block-made, block-room, child-part, few-sides, filter-has, filter-made, group-has, group-made, join-made, leaves-less, leaves-room, leaves-sound, left-few, left-part, left-some, project-has, project-made, right-part}

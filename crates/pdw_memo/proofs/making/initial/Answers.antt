@@ -1,4 +1,4 @@
-use Rattle.std.proofs.Common.{◌≡◌, ◌∙◌, ap, ap₂}
+use Rattle.std.proofs.Common.{◌∙◌, ap, ap₂}
 use Rattle.pdw_groups.specs.Memo.{all_written}
 use Rattle.pdw_memo.specs.Building.{with_tree}
 use Rattle.pdw_memo.specs.declared.building.Building.{Building}
