@@ -4,3 +4,8 @@ pub mod EstimateFolds
 pub mod RowsLemmas
 -- sizes worked out by hand
 mod SizeRows
+-- what groups mean is read from a memo
+pub mod EachLaws
+pub mod BlockReads
+pub mod NodeReads
+pub mod MemoReads

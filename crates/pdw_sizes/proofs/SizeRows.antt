@@ -1,5 +1,5 @@
 -- Sizes worked out by hand: a count over a table, and orders with their customers.
-use Rattle.std.proofs.Common.{◌≡◌, ℕ, pos, List, [], ◌∷◌, max, Option, Some, None, refl, ap, ap₂, ◌∙◌}
+use Rattle.std.proofs.Common.{◌≡◌, ℕ, pos, List, [], ◌∷◌, map, max, Option, Some, None, refl, ap, ap₂, ◌∙◌}
 use Rattle.pdw_algebra.proofs.TreeFolds.{fold-block, fold-group, fold-scan}
 use Rattle.pdw_algebra.specs.Schema.{rising}
 use Rattle.pdw_algebra.specs.Shape.{Shape, columns_of, shape_step}
@@ -74,6 +74,10 @@ one_stays = refl
 none_stays : divided 0 3 ≡ 0
 none_stays = refl
 
+-- two columns of 4,000,000,000 bytes
+widest : width_of_schema (λ c. Some (record { distinct = 1; width = 4000000000 })) ((id 0, kind.Int) ∷ (id 1, kind.Int) ∷ []) ≡ 4294967295
+widest = refl
+
 -- ---- SELECT COUNT(*) FROM e, at four nodes
 
 abbrev counted : ColId
@@ -112,6 +116,10 @@ partials = ap₂ (λ (est : Estimate) columns. size 4 (width_of_schema (aggregat
 
 group : size_of_meaning book 4 tables (exactly (tree.GroupBy [] counts scan_e)) ≡ size 1 8
 group = ap₂ (λ (est : Estimate) columns. size est.rows (width_of_schema est.columns (rising columns))) (estimate-group book [] counts scan_e e_rows e-estimate) group-columns
+
+-- these groups in their order
+sizes : map (size_of_meaning book 4 tables) (exactly scan_e ∷ partial_of [] counts scan_e ∷ exactly (tree.GroupBy [] counts scan_e) ∷ []) ≡ size 1000 1 ∷ size 4 16 ∷ size 1 8 ∷ []
+sizes = λ i. scan i ∷ partials i ∷ group i ∷ []
 
 whole : rows_of_tree book (tree.Project ((counted, None) ∷ []) (tree.GroupBy [] counts scan_e)) ≡ 1
 whole = ap (λ (est : Estimate). est.rows) (estimate-project book ((counted, None) ∷ []) (tree.GroupBy [] counts scan_e) e_counted (estimate-group book [] counts scan_e e_rows e-estimate))

@@ -19,6 +19,7 @@ use Rattle.pdw_expr.specs.declared.scalar.Scalar.{Scalar}
 use Rattle.pdw_expr.specs.declared.scalar.Scalar.TheOpen.{Scalar-F}
 use Rattle.pdw_expr.specs.declared.scalar.Scalar.TheFolds.{fold-Scalar}
 use Rattle.pdw_sizes.specs.Divisor.{divisor}
+use Rattle.pdw_sizes.specs.declared.size.TheConstants.{WIDEST}
 use Rattle.pdw_stats.specs.Book.{Book, stats_of}
 use Rattle.pdw_stats.specs.declared.stats.ColStat.{ColStat}
 use Rattle.pdw_stats.specs.declared.stats.Stats.{Stats}
@@ -56,8 +57,9 @@ width_in columns c = (known (columns c)).width
 
 -- ---- widths of expressions
 
+-- a text is as wide as its bytes, as far as a width goes
 abbrev pub literal_width : Value → ℕ
-literal_width (value.Text text) = max 1 (length text)
+literal_width (value.Text text) = min WIDEST (max 1 (length text))
 literal_width _ = 8
 
 -- a bare column is as wide as it is, a text literal as its bytes, and any other expression 8

@@ -1,8 +1,8 @@
-//! Sizes of groups, as definitions: how many rows a group is reckoned to have, and how wide they are.
+//! Sizes of groups: how many rows a group is reckoned to have, and how wide they are.
 #![tactic(auto)]
 
 mod laws;
 mod size;
 
-pub use laws::reckoned_rows_are_in_range;
-pub use size::Size;
+pub use laws::{each_group_reads_its_meaning, reckoned_rows_are_in_range};
+pub use size::{Size, WIDEST, the_limit_of_widths_is_this};

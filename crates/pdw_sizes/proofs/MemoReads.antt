@@ -1,0 +1,58 @@
+-- What each group of a memo means is read from it.
+use Rattle.std.proofs.Common.{◌≡◌, ℕ, ◌+◌, List, [], ◌++◌, map, Some, refl, sym, ap, subst, ◌∙◌, arith, append-nil}
+use Rattle.std.specs.List.{slice_get}
+use Rattle.std.specs.Option.{option_map}
+use Rattle.std.proofs.lemmas.Option.{slice_get-map}
+use Rattle.pdw_groups.proofs.OrderLaws.{found}
+use Rattle.pdw_groups.specs.Columns.{useful_columns}
+use Rattle.pdw_groups.specs.Group.{GroupOf, kept_group}
+use Rattle.pdw_groups.specs.Meaning.{Meaning}
+use Rattle.pdw_groups.specs.Memo.{Contents, at_first, groups_of, memo_of}
+use Rattle.pdw_groups.specs.Node.{node_of}
+use Rattle.pdw_groups.specs.declared.block.BlockPart.{BlockPart}
+use Rattle.pdw_groups.specs.declared.group.Group.{Group}
+use Rattle.pdw_memo.specs.Laws.{meanings_in}
+use Rattle.pdw_memo.specs.Memo.{IsMemo}
+use Rattle.pdw_sizes.proofs.BlockReads.{GroupReads}
+use Rattle.pdw_sizes.proofs.EachLaws.{each-at, stand-itself}
+use Rattle.pdw_sizes.proofs.NodeReads.{tree-reads}
+use Rattle.pdw_sizes.specs.Reading.{Reads}
+
+some-same : {X : Type 0} (a b : X) → Some a ≡ Some b → a ≡ b
+some-same a b same = cc
+
+-- a group of the memo is one that reads what it means
+pub record Found (contents : Contents) (memo : IsMemo contents) (number : ℕ) (group : Group) (means : Meaning) : Type 0 where
+  pub own : GroupOf
+  pub there : slice_get (groups_of memo.tables memo.levels memo.tree) number ≡ Some own
+  pub kept : kept_group (useful_columns memo.tables memo.tree) own ≡ group
+  pub is : own.means ≡ means
+
+pub found-group : (contents : Contents) (memo : IsMemo contents) (number : ℕ) (group : Group) (means : Meaning) → slice_get contents.groups number ≡ Some group
+    → slice_get (meanings_in contents memo) number ≡ Some means → Found contents memo number group means
+found-group contents memo number group means there meant =
+    let groups = groups_of memo.tables memo.levels memo.tree in
+    let kept = kept_group (useful_columns memo.tables memo.tree) in
+    let at : option_map kept (slice_get groups number) ≡ Some group = sym (slice_get-map kept groups number) ∙ ap (λ (c : Contents). slice_get c.groups number) (sym memo.is) ∙ there in
+    let own = found kept (slice_get groups number) group at in
+    record {
+      own = own.0;
+      there = own.1;
+      kept = some-same (kept own.0) group (sym (ap (option_map kept) own.1) ∙ at);
+      is = some-same own.0.means means (sym (slice_get-map (λ (g : GroupOf). g.means) groups number ∙ ap (option_map (λ (g : GroupOf). g.means)) own.1) ∙ meant);
+    }
+
+pub memo-reads : (contents : Contents) (memo : IsMemo contents) (number : ℕ) (group : Group) (means : Meaning) → slice_get contents.groups number ≡ Some group
+    → slice_get (meanings_in contents memo) number ≡ Some means → Reads (meanings_in contents memo) number contents.blocks group.key group.schema group.exprs means
+memo-reads contents memo number group means there meant =
+    let groups = groups_of memo.tables memo.levels memo.tree in
+    let blocks = (node_of memo.tables memo.levels memo.tree).parts at_first in
+    let own = found-group contents memo number group means there meant in
+    let each =
+    tree-reads groups blocks memo.tables memo.levels memo.tree memo.plannable.well_formed [] [] at_first refl (sym (append-nil ([] ++ groups))) (stand-itself blocks) in
+    let same : 0 + number ≡ number = omega arith in
+    let reads : GroupReads (meanings_in contents memo) blocks number own.own =
+    subst (λ n. GroupReads (meanings_in contents memo) blocks n own.own) same (each-at (GroupReads (meanings_in contents memo) blocks) 0 groups each number own.own own.there) in
+    subst (λ (c : Contents). Reads (meanings_in contents memo) number c.blocks group.key group.schema group.exprs means) (sym memo.is)
+    (subst (λ m. Reads (meanings_in contents memo) number blocks group.key group.schema group.exprs m) own.is
+    (subst (λ (g : Group). Reads (meanings_in contents memo) number blocks g.key g.schema g.exprs own.own.means) own.kept reads))
