@@ -19,17 +19,19 @@ use Rattle.pdw_expr.specs.declared.scalar.Scalar.TheOpen.{Scalar-F}
 use Rattle.pdw_expr.specs.declared.scalar.Scalar.TheFolds.{fold-roll-Scalar}
 use Rattle.pdw_expr.specs.declared.scalar.Scalar.TheVariants as scalar
 use Rattle.pdw_groups.specs.Columns.{column_step}
-use Rattle.pdw_sizes.specs.Divisor.{Side, column, compare_divisor, constant, divisor, divisor_step, side_by, side_of}
+use Rattle.pdw_sizes.specs.Divisor.{compare_divisor, divisor, divisor_step, side_by, side_of}
 use Rattle.pdw_sizes.specs.Estimate.{ColStats, Estimate, estimate, estimate_step, expression_width, literal_width, width_in, width_step}
+use Rattle.pdw_sizes.specs.declared.divisors.Side.{Side}
+use Rattle.pdw_sizes.specs.declared.divisors.Side.TheVariants as side
 use Rattle.pdw_stats.specs.Book.{Book}
 
 -- ---- sides of a comparison
 
-pub side_of-column : (c : ColId) → side_of (scalar.Col c) ≡ column c
+pub side_of-column : (c : ColId) → side_of (scalar.Col c) ≡ side.Column c
 unfolding Rattle.pdw_expr.specs.declared.scalar.Scalar.TheViews.roll-Scalar denote.Hole.Carrier.roll
 side_of-column c = ap₂ side_by (fold-roll-Scalar (Option ColId) column_step (Scalar-F.Col c)) (fold-roll-Scalar (List ColId) scalar_columns_step (Scalar-F.Col c))
 
-pub side_of-literal : (v : Value) → side_of (scalar.Lit v) ≡ constant
+pub side_of-literal : (v : Value) → side_of (scalar.Lit v) ≡ side.Constant
 unfolding Rattle.pdw_expr.specs.declared.scalar.Scalar.TheViews.roll-Scalar denote.Hole.Carrier.roll
 side_of-literal v = ap₂ side_by (fold-roll-Scalar (Option ColId) column_step (Scalar-F.Lit v)) (fold-roll-Scalar (List ColId) scalar_columns_step (Scalar-F.Lit v))
 

@@ -9,3 +9,11 @@ pub mod EachLaws
 pub mod BlockReads
 pub mod NodeReads
 pub mod MemoReads
+-- what is reckoned of groups by their numbers
+pub mod NumberedLaws
+pub mod FirstLaws
+-- one step of each loop
+pub mod LoopLaws
+-- for the calls
+pub mod ReadLaws
+pub mod MadeLaws

@@ -27,7 +27,7 @@ use Rattle.pdw_groups.specs.declared.op.Op.{Op}
 use Rattle.pdw_groups.specs.declared.op.Op.TheVariants as op
 use Rattle.pdw_memo.proofs.Counts.{tree-counted}
 use Rattle.pdw_memo.proofs.SoundParts.{few-leaves}
-use Rattle.pdw_sizes.proofs.BlockReads.{GroupReads, block-reads, leaf_id, leaf_tree}
+use Rattle.pdw_sizes.proofs.BlockReads.{GroupReads, IsRisen, block-reads, leaf_id, leaf_tree}
 use Rattle.pdw_sizes.proofs.EachLaws.{Each, StandAt, each-append, each-left, each-right}
 use Rattle.pdw_sizes.specs.Reading.{EachMeansTree, MeansTree, ReadsBy}
 
@@ -54,14 +54,14 @@ regroup a b c d = simp append_assoc
 abbrev node_tree : Node → Tree
 node_tree node = node.tree
 
-module _ (all : List GroupOf) (blocks : List BlockPart) where
+module _ (tables : Tables) (all : List GroupOf) (blocks : List BlockPart) where
   abbrev by_number : List Meaning
   by_number = map (λ group. group.means) all
 
   -- after these groups and parts the groups of a node read what they mean
   abbrev Reading : Node → Type 0
   Reading node = (earlier later : List GroupOf) (before : Before) → before.groups ≡ length earlier → all ≡ (earlier ++ node.groups before) ++ later
-      → StandAt blocks before.blocks (node.parts before) → Each (GroupReads by_number blocks) before.groups (node.groups before)
+      → StandAt blocks before.blocks (node.parts before) → Each (GroupReads tables by_number blocks) before.groups (node.groups before)
 
   record Known (node : Node) : Type 0 where
     ordered : Ordered node
@@ -84,7 +84,7 @@ module _ (all : List GroupOf) (blocks : List BlockPart) where
       }
 
   record Turn (nodes : List Node) (before : Before) : Type 0 where
-    reads : Each (GroupReads by_number blocks) before.groups (groups_in_turn nodes before)
+    reads : Each (GroupReads tables by_number blocks) before.groups (groups_in_turn nodes before)
     own : (limit : ℕ) → (passed_all before nodes).groups ≤ limit → EachMeansTree by_number limit (map id_of (own_in_turn nodes before)) (map node_tree nodes)
     groups : (passed_all before nodes).groups ≡ before.groups + length (groups_in_turn nodes before)
     parts : (passed_all before nodes).blocks ≡ before.blocks + length (parts_in_turn nodes before)
@@ -109,14 +109,14 @@ module _ (all : List GroupOf) (blocks : List BlockPart) where
       let more = rest.groups in
       let more_parts = rest.parts in
       record {
-        reads = each-append (GroupReads by_number blocks) before.groups groups rest_groups
+        reads = each-append (GroupReads tables by_number blocks) before.groups groups rest_groups
             (known.0.reads earlier (rest_groups ++ later) before number first_is (each-left (λ n x. slice_get blocks n ≡ Some x) before.blocks (node.parts before) rest_parts stand)) rest.reads;
         own = λ limit le. (own-means node known.0.ordered earlier (rest_groups ++ later) before number first_is limit (omega (arith, more, le)), rest.own limit le);
         groups = omega (arith, more, all_groups);
         parts = omega (arith, more_parts, all_parts, parts);
       }
 
-  module _ (tables : Tables) (levels : ℕ → Level) where
+  module _ (levels : ℕ → Level) where
     -- ---- operators
 
     operator-reads : (t : Tree) (operator : Op) (nodes : List Node) → AllByRecursion Known nodes
@@ -127,8 +127,8 @@ module _ (all : List GroupOf) (blocks : List BlockPart) where
         let last = whole_group tables levels (passed_all before nodes).operators t (record { operator = operator; children = own_in_turn nodes before } ∷ []) in
         let turned = turn nodes known earlier (last ∷ [] ++ later) before number (is ∙ regroup earlier groups (last ∷ []) later) stand in
         let count = turned.groups in
-        each-append (GroupReads by_number blocks) before.groups groups (last ∷ []) turned.reads
-        (record { first = _; rest = []; is = refl; reads = reads (before.groups + length groups) before (turned.own (before.groups + length groups) (omega (arith, count))) }, tt)
+        each-append (GroupReads tables by_number blocks) before.groups groups (last ∷ []) turned.reads
+        (record { reads = record { first = _; rest = []; is = refl; reads = reads (before.groups + length groups) before (turned.own (before.groups + length groups) (omega (arith, count))) }; schema = refl }, tt)
 
     -- ---- groupings
 
@@ -138,10 +138,10 @@ module _ (all : List GroupOf) (blocks : List BlockPart) where
         let own = grouping_groups tables levels keys aggs child before in
         let child_is = is ∙ regroup earlier groups own later in
         let means = λ (limit : ℕ) (le : (passed before child).groups ≤ limit). own-means child known.ordered earlier (own ++ later) before number child_is limit le in
-        each-append (GroupReads by_number blocks) before.groups groups own (known.reads earlier (own ++ later) before number child_is stand) (
-          record { first = _; rest = []; is = refl; reads = record { child = _; of = child.tree; only = refl; reads = means (before.groups + length groups) (omega arith); is = refl } },
+        each-append (GroupReads tables by_number blocks) before.groups groups own (known.reads earlier (own ++ later) before number child_is stand) (
+          record { reads = record { first = _; rest = []; is = refl; reads = record { child = _; of = child.tree; only = refl; reads = means (before.groups + length groups) (omega arith); is = refl } }; schema = refl },
           (
-            record { first = _; rest = _; is = refl; reads = record { child = _; of = child.tree; only = refl; reads = means (suc (before.groups + length groups)) (omega arith); is = refl } },
+            record { reads = record { first = _; rest = _; is = refl; reads = record { child = _; of = child.tree; only = refl; reads = means (suc (before.groups + length groups)) (omega arith); is = refl } }; schema = refl },
             tt,
           ),
         )
@@ -160,6 +160,10 @@ module _ (all : List GroupOf) (blocks : List BlockPart) where
     own-count [] before = refl
     own-count (node ∷ nodes) before = ap suc (own-count nodes (passed before node))
 
+    leaves-risen : (nodes : List Node) (before : Before) → AllByRecursion (IsRisen tables) (block_leaves tables levels nodes before)
+    leaves-risen [] before = tt
+    leaves-risen (node ∷ nodes) before = (refl, leaves-risen nodes (passed before node))
+
     block-node-reads : (conds : List Cond) (nodes : List Node) → AllByRecursion Known nodes → length nodes ≤ 10 → Reading (block_node tables levels conds nodes)
     block-node-reads conds nodes known few earlier later before number is stand =
         let groups = groups_in_turn nodes before in
@@ -174,11 +178,11 @@ module _ (all : List GroupOf) (blocks : List BlockPart) where
         let count = length-map (own_in_turn nodes before) id_of in
         let counted = own-count nodes before in
         let fits : length part.leaves ≤ 10 = omega (arith, few, count, counted) in
-        each-append (GroupReads by_number blocks) before.groups groups own turned.reads
-        (subst (λ n. Each (GroupReads by_number blocks) n own) turned.groups
-        (block-reads by_number blocks after.blocks part there fits after.groups (levels after.blocks) leaves (leaves-ids nodes before)
+        each-append (GroupReads tables by_number blocks) before.groups groups own turned.reads
+        (subst (λ n. Each (GroupReads tables by_number blocks) n own) turned.groups
+        (block-reads tables by_number blocks after.blocks part there fits after.groups (levels after.blocks) leaves (leaves-ids nodes before)
         (λ limit le. subst (λ trees. EachMeansTree by_number limit (map leaf_id leaves) trees) (leaves-trees nodes before)
-        (subst (λ ids. EachMeansTree by_number limit ids (map node_tree nodes)) (leaves-ids nodes before) (turned.own limit le)))))
+        (subst (λ ids. EachMeansTree by_number limit ids (map node_tree nodes)) (leaves-ids nodes before) (turned.own limit le))) (leaves-risen nodes before)))
 
     -- ---- any tree
 

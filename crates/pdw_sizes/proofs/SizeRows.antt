@@ -23,10 +23,11 @@ use Rattle.pdw_expr.specs.declared.scalar.Scalar.TheVariants as scalar
 use Rattle.pdw_groups.specs.Meaning.{exactly, partial_of}
 use Rattle.pdw_sizes.proofs.EstimateFolds.{divisor-sides, estimate-block, estimate-filter, estimate-group, estimate-join, estimate-project, estimate-scan, expression_width-literal, side_of-column, side_of-literal}
 use Rattle.pdw_groups.specs.Columns.{partial_schema}
-use Rattle.pdw_sizes.specs.Divisor.{column, constant, divisor}
+use Rattle.pdw_sizes.specs.Divisor.{divisor}
 use Rattle.pdw_sizes.specs.Estimate.{ColStats, Estimate, aggregate_columns, both_columns, distinct_in, distinct_of, divided, estimate, estimate_step, join_rows, key_rows, leaf_columns, rows_left, rows_of_tree, times, width_in, width_of_column}
 use Rattle.pdw_sizes.specs.Sizes.{partial_rows, size_of_meaning, width_of_schema}
 use Rattle.pdw_sizes.specs.declared.size.Size.{Size}
+use Rattle.pdw_sizes.specs.declared.divisors.Side.TheVariants as side
 use Rattle.pdw_stats.specs.Book.{Book}
 use Rattle.pdw_stats.specs.declared.stats.Stats.{Stats}
 
@@ -163,15 +164,15 @@ zone_below_5 = cond.Compare compares.Lt (scalar.Col (id 3)) (scalar.Lit (value.I
 -- what a conjunct divides by, whatever is known of its columns
 module _ (distinct : ColId → ℕ) where
   divides-same_customer : divisor distinct same_customer ≡ max (distinct (id 1)) (distinct (id 2))
-  divides-same_customer = divisor-sides compares.Eq (scalar.Col (id 1)) (scalar.Col (id 2)) (column (id 1)) (column (id 2)) (side_of-column (id 1)) (side_of-column (id 2)) distinct
+  divides-same_customer = divisor-sides compares.Eq (scalar.Col (id 1)) (scalar.Col (id 2)) (side.Column (id 1)) (side.Column (id 2)) (side_of-column (id 1)) (side_of-column (id 2)) distinct
 
   divides-zone_is_5 : divisor distinct zone_is_5 ≡ distinct (id 3)
   divides-zone_is_5 =
-      divisor-sides compares.Eq (scalar.Lit (value.Int (pos 5))) (scalar.Col (id 3)) constant (column (id 3)) (side_of-literal (value.Int (pos 5))) (side_of-column (id 3)) distinct
+      divisor-sides compares.Eq (scalar.Lit (value.Int (pos 5))) (scalar.Col (id 3)) side.Constant (side.Column (id 3)) (side_of-literal (value.Int (pos 5))) (side_of-column (id 3)) distinct
 
   divides-zone_below_5 : divisor distinct zone_below_5 ≡ 3
   divides-zone_below_5 =
-      divisor-sides compares.Lt (scalar.Col (id 3)) (scalar.Lit (value.Int (pos 5))) (column (id 3)) constant (side_of-column (id 3)) (side_of-literal (value.Int (pos 5))) distinct
+      divisor-sides compares.Lt (scalar.Col (id 3)) (scalar.Lit (value.Int (pos 5))) (side.Column (id 3)) side.Constant (side_of-column (id 3)) (side_of-literal (value.Int (pos 5))) distinct
 
 abbrev joined_tree : Tree
 joined_tree = tree.Block (scan_orders ∷ scan_customers ∷ []) (same_customer ∷ [])

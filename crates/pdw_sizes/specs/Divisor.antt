@@ -1,5 +1,7 @@
 -- How a condition lessens rows, by how many different values its columns have.
-use Rattle.std.specs.Prelude.{ℕ, List, [], ◌∷◌, max, Option, Some, None}
+use Rattle.std.specs.Prelude.{ℕ, Bool, List, [], max, Option, Some, None, if◌then◌else◌}
+use Rattle.std.specs.List.{list_all}
+use Rattle.pdw_algebra.specs.Shape.{has_number}
 use Rattle.pdw_base.specs.declared.schema.ColId.{ColId}
 use Rattle.pdw_expr.specs.Columns.{scalar_columns}
 use Rattle.pdw_expr.specs.declared.cond.Cmp.{Cmp}
@@ -9,17 +11,16 @@ use Rattle.pdw_expr.specs.declared.cond.Cond.TheOpen.{Cond-F}
 use Rattle.pdw_expr.specs.declared.cond.Cond.TheFolds.{fold-Cond}
 use Rattle.pdw_expr.specs.declared.scalar.Scalar.{Scalar}
 use Rattle.pdw_groups.specs.Columns.{column_alone}
+use Rattle.pdw_sizes.specs.declared.divisors.Side.{Side}
+use Rattle.pdw_sizes.specs.declared.divisors.Side.TheVariants as side
 
 -- one side of a comparison: the column that it is, or an expression without columns, or any other
-pub data Side : Type 0 where
-  column : ColId → Side
-  constant : Side
-  other : Side
+abbrev pub side_if : Bool → Side
+side_if constant = if constant then side.Constant else side.Other
 
 abbrev pub side_by : Option ColId → List ColId → Side
-side_by (Some c) columns = column c
-side_by None [] = constant
-side_by None (first ∷ rest) = other
+side_by (Some c) columns = side.Column c
+side_by None columns = side_if (list_all (λ c. has_number c []) columns)
 
 abbrev pub side_of : Scalar → Side
 side_of expression = side_by (column_alone expression) (scalar_columns expression)
@@ -27,9 +28,9 @@ side_of expression = side_by (column_alone expression) (scalar_columns expressio
 module _ (distinct : ColId → ℕ) where
   -- an equality of two columns, or of a column and an expression without columns, in either writing
   abbrev pub equality_divisor : Side → Side → ℕ
-  equality_divisor (column a) (column b) = max (distinct a) (distinct b)
-  equality_divisor (column a) constant = distinct a
-  equality_divisor constant (column b) = distinct b
+  equality_divisor (side.Column a) (side.Column b) = max (distinct a) (distinct b)
+  equality_divisor (side.Column a) side.Constant = distinct a
+  equality_divisor side.Constant (side.Column b) = distinct b
   equality_divisor _ _ = 2
 
   abbrev pub compare_divisor : Cmp → Side → Side → ℕ

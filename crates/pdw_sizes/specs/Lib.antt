@@ -6,3 +6,5 @@ pub mod Estimate
 pub mod Sizes
 -- how what a group means is read from a memo
 pub mod Reading
+-- what is reckoned of groups by their numbers
+pub mod Numbered

@@ -14,7 +14,12 @@ use Rattle.pdw_groups.specs.declared.key.GroupKey.{GroupKey}
 use Rattle.pdw_groups.specs.declared.key.GroupKey.TheVariants as key
 use Rattle.pdw_groups.specs.declared.op.Op.{Op}
 use Rattle.pdw_groups.specs.declared.op.Op.TheVariants as op
+use Rattle.pdw_groups.specs.Memo.{Contents}
+use Rattle.pdw_memo.specs.Laws.{meanings_in}
+use Rattle.pdw_memo.specs.Memo.{IsMemo}
 use Rattle.pdw_parts.specs.Part.{chosen, is_inside}
+use Rattle.pdw_sizes.specs.declared.reading.Source.{Source}
+use Rattle.pdw_sizes.specs.declared.reading.Source.TheVariants as source
 
 -- where groups have these meanings, for the group of a number
 module _ (meanings : List Meaning) (number : ℕ) where
@@ -63,15 +68,43 @@ module _ (meanings : List Meaning) (number : ℕ) where
     pub reads : ReadsBy means first.op first.children
 
   -- a set of leaves is the block of these, with every conjunct inside
-  pub record ReadsSet (blocks : List BlockPart) (block leaves : ℕ) (schema : Columns) (means : Meaning) : Type 0 where
-    pub part : BlockPart
-    pub there : slice_get blocks block ≡ Some part
+  pub record ReadsSet (part : BlockPart) (leaves : ℕ) (schema : Columns) (means : Meaning) : Type 0 where
     pub few : length part.leaves ≤ 10
     pub trees : List Tree
     pub each : EachMeansTree (chosen (set_of leaves) part.leaves) trees
     pub is : means ≡ exactly (tree.Block trees (filter (is_inside schema) part.conds))
 
+  pub record ReadsBlock (blocks : List BlockPart) (block leaves : ℕ) (schema : Columns) (means : Meaning) : Type 0 where
+    pub part : BlockPart
+    pub there : slice_get blocks block ≡ Some part
+    pub reads : ReadsSet part leaves schema means
+
   abbrev pub Reads : List BlockPart → GroupKey → Columns → List Expr → Meaning → Type 0
-  Reads blocks (key.Part block leaves) schema exprs means = ReadsSet blocks block leaves schema means
+  Reads blocks (key.Part block leaves) schema exprs means = ReadsBlock blocks block leaves schema means
   Reads blocks (key.Whole operator) schema exprs means = ReadsFirst means exprs
   Reads blocks (key.Partial operator) schema exprs means = ReadsFirst means exprs
+
+-- ---- what is read of the group of a number
+
+pub record SetMeaning (contents : Contents) (memo : IsMemo contents) (number : ℕ) (part : BlockPart) (leaves : ℕ) (schema : Columns) : Type 0 where
+  pub means : Meaning
+  pub there : slice_get (meanings_in contents memo) number ≡ Some means
+  pub reads : ReadsSet (meanings_in contents memo) number part leaves schema means
+
+pub record FirstMeaning (contents : Contents) (memo : IsMemo contents) (number : ℕ) (expr : Expr) : Type 0 where
+  pub means : Meaning
+  pub there : slice_get (meanings_in contents memo) number ≡ Some means
+  pub reads : ReadsBy (meanings_in contents memo) number means expr.op expr.children
+
+-- whatever tree the memo is of
+pub record IsSet (contents : Contents) (number : ℕ) (part : BlockPart) (leaves : ℕ) (schema : Columns) : Type 0 where
+  pub some : IsMemo contents
+  pub each : (memo : IsMemo contents) → SetMeaning contents memo number part leaves schema
+
+pub record IsFirst (contents : Contents) (number : ℕ) (expr : Expr) : Type 0 where
+  pub some : IsMemo contents
+  pub each : (memo : IsMemo contents) → FirstMeaning contents memo number expr
+
+abbrev pub IsRead : Contents → ℕ → Source → Type 0
+IsRead contents number (source.Set part leaves schema) = IsSet contents number part.now leaves schema.now
+IsRead contents number (source.First expr) = IsFirst contents number expr.now

@@ -16,6 +16,10 @@ use Rattle.pdw_sizes.specs.declared.size.Size.{Size}
 use Rattle.pdw_sizes.specs.declared.size.TheConstants.{WIDEST}
 use Rattle.pdw_stats.specs.Book.{Book}
 
+abbrev pub schema_of_meaning : Tables → Meaning → Columns
+schema_of_meaning tables (exactly tree) = rising (columns_of tables tree)
+schema_of_meaning tables (partial_of keys aggs tree) = partial_schema keys aggs (rising (columns_of tables tree))
+
 -- the sum of the columns' widths, at least 1 and at most the greatest width
 abbrev pub width_of_schema : ColStats → Columns → ℕ
 width_of_schema columns schema = min WIDEST (max 1 (sum_by (λ column. width_in columns column.0) schema))
@@ -39,13 +43,8 @@ module _ (book : Book) (n : ℕ) where
   abbrev pub size_with : Columns → Meaning → Size
   size_with schema means = record { rows = rows_of_meaning means; width = width_of_schema (columns_of_meaning book means) schema }
 
-  module _ (tables : Tables) where
-    abbrev pub schema_of_meaning : Meaning → Columns
-    schema_of_meaning (exactly tree) = rising (columns_of tables tree)
-    schema_of_meaning (partial_of keys aggs tree) = partial_schema keys aggs (rising (columns_of tables tree))
-
-    abbrev pub size_of_meaning : Meaning → Size
-    size_of_meaning means = size_with (schema_of_meaning means) means
+  abbrev pub size_of_meaning : Tables → Meaning → Size
+  size_of_meaning tables means = size_with (schema_of_meaning tables means) means
 
 -- the sizes of a memo's groups, by number
 abbrev pub sizes_in : (contents : Contents) → IsMemo contents → Book → ℕ → List Size
