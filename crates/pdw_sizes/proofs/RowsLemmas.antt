@@ -1,5 +1,6 @@
--- No tree is reckoned to have more than 10^12 rows.
+-- No tree is reckoned to have more than 10^12 rows, and sizes are in their ranges.
 use Rattle.std.proofs.Common.{◌≡◌, ℕ, ◌==◌, ◌/◌, ◌≤◌, Bool, true, false, List, [], ◌∷◌, fold, map, max, Option, Some, None, IfSome, refl, sym, subst, arith, if◌then◌else◌}
+use Rattle.std.specs.List.{AllByRecursion}
 use Rattle.std.specs.Str.{bytes_eq}
 use Rattle.std.proofs.Math.Nat.{div-le_self}
 use Rattle.std.proofs.lemmas.Bool.Decides.{nat_tests}
@@ -7,6 +8,7 @@ use Rattle.pdw_algebra.proofs.TreeFolds.{Inductive, by_trees}
 use Rattle.pdw_algebra.specs.declared.tree.Tree.{Tree}
 use Rattle.pdw_algebra.specs.declared.tree.Tree.TheVariants as tree
 use Rattle.pdw_base.specs.declared.schema.ColId.{ColId}
+use Rattle.pdw_catalog.specs.Catalog.{Tables}
 use Rattle.pdw_expr.specs.declared.agg.JoinKind.{JoinKind}
 use Rattle.pdw_expr.specs.declared.agg.JoinKind.TheVariants as join
 use Rattle.pdw_expr.specs.declared.cond.Cond.{Cond}
@@ -14,7 +16,7 @@ use Rattle.pdw_groups.specs.Meaning.{Meaning, exactly, partial_of}
 use Rattle.pdw_sizes.proofs.EstimateFolds.{estimate-block, estimate-filter, estimate-group, estimate-join, estimate-project, estimate-scan}
 use Rattle.pdw_sizes.specs.Divisor.{divisor}
 use Rattle.pdw_sizes.specs.Estimate.{ColStats, Estimate, both_columns, distinct_in, divided, estimate, join_rows, key_rows, leaf_columns, leaf_rows, rows_left, table_rows, times}
-use Rattle.pdw_sizes.specs.Sizes.{partial_rows, rows_of_meaning}
+use Rattle.pdw_sizes.specs.Sizes.{IsSizeInRange, partial_rows, rows_of_meaning, size_of_meaning}
 use Rattle.pdw_stats.proofs.RangeLemmas.{IsInRange-lookup}
 use Rattle.pdw_stats.specs.Book.{AreInRange, Book, stats_of}
 use Rattle.pdw_stats.specs.Stats.{IsInRange}
@@ -98,3 +100,16 @@ module _ (book : Book) (range : AreInRange book) where
 pub rows_of_meaning-le : (book : Book) (n : ℕ) (means : Meaning) → AreInRange book → n ≤ 16 → rows_of_meaning book n means ≤ 1000000000000
 rows_of_meaning-le book n (exactly t) range few = rows_of_tree-le book range t
 rows_of_meaning-le book n (partial_of keys aggs t) range few = partial_rows-le n _ (estimate book t).rows keys few (rows_of_tree-le book range t)
+
+-- ---- sizes
+
+size-in : (book : Book) (n : ℕ) (tables : Tables) (means : Meaning) → AreInRange book → n ≤ 16 → IsSizeInRange (size_of_meaning book n tables means)
+size-in book n tables means range few = record {
+  rows = rows_of_meaning-le book n means range few;
+  some_width = omega arith;
+  most_width = omega arith;
+}
+
+pub sizes-in : (book : Book) (n : ℕ) (tables : Tables) → AreInRange book → n ≤ 16 → (all : List Meaning) → AllByRecursion IsSizeInRange (map (size_of_meaning book n tables) all)
+sizes-in book n tables range few [] = tt
+sizes-in book n tables range few (means ∷ all) = (size-in book n tables means range few, sizes-in book n tables range few all)

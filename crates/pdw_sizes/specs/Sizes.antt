@@ -1,5 +1,5 @@
 -- The size of a group: its rows, and the width of its schema.
-use Rattle.std.specs.Prelude.{ℕ, ◌*◌, List, [], ◌∷◌, map, max, min}
+use Rattle.std.specs.Prelude.{ℕ, ◌*◌, ◌≤◌, List, [], ◌∷◌, map, max, min}
 use Rattle.std.specs.List.{sum_by}
 use Rattle.pdw_algebra.specs.Schema.{rising}
 use Rattle.pdw_algebra.specs.Shape.{columns_of}
@@ -15,6 +15,7 @@ use Rattle.pdw_sizes.specs.Estimate.{ColStats, aggregate_columns, estimate, key_
 use Rattle.pdw_sizes.specs.declared.size.Size.{Size}
 use Rattle.pdw_sizes.specs.declared.size.TheConstants.{WIDEST}
 use Rattle.pdw_stats.specs.Book.{Book}
+use Rattle.pdw_stats.specs.declared.stats.TheConstants.{MOST_ROWS}
 
 abbrev pub schema_of_meaning : Tables → Meaning → Columns
 schema_of_meaning tables (exactly tree) = rising (columns_of tables tree)
@@ -49,3 +50,9 @@ module _ (book : Book) (n : ℕ) where
 -- the sizes of a memo's groups, by number
 abbrev pub sizes_in : (contents : Contents) → IsMemo contents → Book → ℕ → List Size
 sizes_in contents memo book n = map (size_of_meaning book n memo.tables) (meanings_in contents memo)
+
+-- there are 0 to 10^12 rows, and a width of 1 to the greatest
+pub record IsSizeInRange (size : Size) : Type 0 where
+  pub rows : size.rows ≤ MOST_ROWS
+  pub some_width : 1 ≤ size.width
+  pub most_width : size.width ≤ WIDEST
