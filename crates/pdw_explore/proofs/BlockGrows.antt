@@ -1,5 +1,5 @@
 -- A block of a written tree becomes that of its level.
-use Rattle.std.proofs.Common.{◌≡◌, ℕ, zero, suc, ◌+◌, ◌-◌, ◌^◌, ◌<◌, ◌≤◌, ◌==◌, Bool, true, false, cond, List, [], ◌∷◌, ◌++◌, filter, fold, length, map, Some, refl, sym, ap, ap₂, subst, ◌∙◌, arith, append_assoc, append-nil, length-append, true≢false, if◌then◌else◌}
+use Rattle.std.proofs.Common.{◌≡◌, ℕ, ◌+◌, ◌-◌, ◌^◌, ◌<◌, ◌≤◌, true, false, cond, List, [], ◌∷◌, ◌++◌, filter, length, map, Some, refl, sym, ap, ap₂, subst, ◌∙◌, arith, append_assoc, append-nil, length-append, true≢false}
 use Rattle.std.specs.List.{AllByRecursion, flat_map, slice_get}
 use Rattle.std.specs.Option.{option_map}
 use Rattle.std.proofs.lemmas.List.{length-map, map-append}
@@ -11,16 +11,16 @@ use Rattle.pdw_base.specs.Schema.{Columns}
 use Rattle.pdw_base.specs.declared.schema.ColId.{ColId}
 use Rattle.pdw_catalog.specs.Catalog.{Tables}
 use Rattle.pdw_expr.specs.declared.cond.Cond.{Cond}
-use Rattle.pdw_explore.proofs.GrowLaws.{Finds, Goes, after, finds-more, goes-append, kept}
-use Rattle.pdw_explore.proofs.InTurn.{HasSchema, each-schema, at_levels, most}
+use Rattle.pdw_explore.proofs.GrowLaws.{Goes, after, finds-more, goes-append, kept}
+use Rattle.pdw_explore.proofs.InTurn.{HasSchema, each-schema, most}
 use Rattle.pdw_explore.proofs.OperatorGrows.{Ends, ends-append, ends-one}
-use Rattle.pdw_explore.proofs.SetGrows.{IsWhole, OneLeaf, Ready, SameLeaves, columns-same, leaf_id, left-all, leaves-length, new_sets, ready-on, second-goes, seconds-go, whole-columns, whole-goes, written_set}
+use Rattle.pdw_explore.proofs.SetGrows.{IsWhole, OneLeaf, Ready, SameLeaves, columns-same, leaf_id, left-all, leaves-length, ready-on, second-goes, seconds-go, whole-columns, whole-goes}
 use Rattle.pdw_explore.specs.Grown.{after_leaves, last_of, level_at}
 use Rattle.pdw_explore.specs.declared.grown.Grown.{Grown}
 use Rattle.pdw_groups.proofs.BlockWhole.{AllInside, all-inside_leaf, fitting, none-kept}
 use Rattle.pdw_groups.proofs.CountLaws.{has-whole}
 use Rattle.pdw_groups.proofs.KeptLaws.{seconds-kept}
-use Rattle.pdw_groups.proofs.OrderLaws.{at-end, at-left}
+use Rattle.pdw_groups.proofs.OrderLaws.{at-end}
 use Rattle.pdw_groups.proofs.PartOrder.{below-less}
 use Rattle.pdw_groups.specs.Block.{BlockLeaf, block_groups, second_group, second_groups, set_group}
 use Rattle.pdw_groups.specs.Group.{GroupOf, kept_group}

@@ -1,21 +1,20 @@
 -- What is made of a written memo is the memo at the levels within the budget.
-use Rattle.std.proofs.Common.{◌≡◌, ℕ, zero, suc, ◌+◌, ◌-◌, ◌*◌, ◌^◌, ◌<◌, ◌≤◌, List, [], ◌∷◌, ◌++◌, drop, drop-cons, get_or, length, map, reverse, Some, refl, sym, ap, ap₂, subst, ◌∙◌, arith, append_assoc, length-append}
-use Rattle.std.specs.List.{AllByRecursion, slice_get}
+use Rattle.std.proofs.Common.{◌≡◌, ℕ, suc, ◌+◌, ◌-◌, ◌^◌, ◌<◌, List, [], ◌∷◌, ◌++◌, drop, drop-cons, length, reverse, refl, sym, ap, ap₂, subst, ◌∙◌, arith, append_assoc, length-append}
+use Rattle.std.specs.List.{AllByRecursion}
 use Rattle.std.proofs.lemmas.List.{length-map, length-reverse, reverse-reverse}
 use Rattle.pdw_algebra.specs.declared.tree.Tree.{Tree}
 use Rattle.pdw_base.specs.declared.schema.ColId.{ColId}
 use Rattle.pdw_catalog.specs.Catalog.{Tables}
-use Rattle.pdw_explore.proofs.GrowLaws.{Finds, Goes, Holds, Moved, finds-map, finds-range}
-use Rattle.pdw_explore.proofs.InTurn.{GoesNode, Grows}
+use Rattle.pdw_explore.proofs.GrowLaws.{Holds, Moved, finds-map, finds-range}
+use Rattle.pdw_explore.proofs.InTurn.{GoesNode}
 use Rattle.pdw_explore.proofs.RoomLaws.{Few, tree-small}
 use Rattle.pdw_explore.proofs.TreeGrows.{tree-grows}
 use Rattle.pdw_explore.specs.Explored.{explored_memo}
-use Rattle.pdw_explore.specs.Grown.{CanGrow, grown_all, grown_memo, level_at, moved_block, moved_blocks, nothing}
+use Rattle.pdw_explore.specs.Grown.{CanGrow, grown_all, grown_memo, level_at, moved_blocks, nothing}
 use Rattle.pdw_explore.specs.Levels.{leaf_counts, level_list, level_within, levels_by, taken}
 use Rattle.pdw_explore.specs.declared.grown.Grown.{Grown}
 use Rattle.pdw_groups.proofs.OrderLaws.{at-end}
 use Rattle.pdw_groups.specs.Columns.{useful_columns}
-use Rattle.pdw_groups.specs.Group.{GroupOf, kept_group}
 use Rattle.pdw_groups.specs.Memo.{Contents, all_written, at_first, groups_of, memo_of}
 use Rattle.pdw_groups.specs.Node.{node_of}
 use Rattle.pdw_groups.specs.declared.block.BlockPart.{BlockPart}
@@ -23,7 +22,7 @@ use Rattle.pdw_groups.specs.declared.block.Level.{Level}
 use Rattle.pdw_groups.specs.declared.block.Level.TheVariants as level
 use Rattle.pdw_groups.specs.declared.group.Group.{Group}
 use Rattle.pdw_groups.specs.declared.key.GroupId.{GroupId}
-use Rattle.pdw_memo.specs.Memo.{IsMemo, IsPlannable, node_count}
+use Rattle.pdw_memo.specs.Memo.{IsMemo, IsPlannable}
 
 -- ---- levels
 

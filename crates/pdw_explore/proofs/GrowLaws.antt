@@ -1,17 +1,16 @@
 -- Groups that are gone through, one list after the other.
-use Rattle.std.proofs.Common.{◌≡◌, ℕ, zero, suc, ◌+◌, ◌^◌, ◌<◌, ◌≤◌, List, [], ◌∷◌, ◌++◌, length, map, Some, refl, sym, ap, ap₂, subst, ◌∙◌, arith, append_assoc, append-nil, length-append}
+use Rattle.std.proofs.Common.{◌≡◌, ℕ, zero, suc, ◌+◌, ◌<◌, List, [], ◌∷◌, ◌++◌, length, map, Some, refl, sym, ap, ap₂, subst, ◌∙◌, arith, append_assoc, append-nil, length-append}
 use Rattle.std.specs.Bool.{⊤}
 use Rattle.std.specs.List.{AllByRecursion, slice_get, slice_index_or}
-use Rattle.std.proofs.lemmas.List.{length-map, map-append}
+use Rattle.std.proofs.lemmas.List.{map-append}
 use Rattle.std.proofs.lemmas.Option.{slice_get_within}
 use Rattle.pdw_base.specs.declared.schema.ColId.{ColId}
-use Rattle.pdw_explore.specs.Grown.{CanGrow, CanGrowBy, CanStay, grown_all, grown_with, level_at, new_number, renumbered, stays}
+use Rattle.pdw_explore.specs.Grown.{CanGrow, CanGrowBy, grown_all, grown_with, level_at, new_number, renumbered, stays}
 use Rattle.pdw_explore.specs.declared.grown.Grown.{Grown}
-use Rattle.pdw_groups.proofs.OrderLaws.{at-end, at-left}
+use Rattle.pdw_groups.proofs.OrderLaws.{at-left}
 use Rattle.pdw_groups.specs.Group.{GroupOf, kept_group}
 use Rattle.pdw_groups.specs.declared.block.BlockPart.{BlockPart}
 use Rattle.pdw_groups.specs.declared.block.Level.{Level}
-use Rattle.pdw_groups.specs.declared.group.Expr.{Expr}
 use Rattle.pdw_groups.specs.declared.group.Group.{Group}
 use Rattle.pdw_groups.specs.declared.key.GroupId.{GroupId}
 

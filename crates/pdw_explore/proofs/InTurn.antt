@@ -1,20 +1,18 @@
 -- Nodes of a written tree beside those of the same tree at other levels, one after the other.
-use Rattle.std.proofs.Common.{◌≡◌, ℕ, suc, ◌+◌, ◌-◌, ◌^◌, ◌<◌, ◌≤◌, List, [], ◌∷◌, ◌++◌, fold, length, map, sum, Some, refl, sym, ap, ap₂, subst, ◌∙◌, arith, append_assoc, append-nil, length-append}
+use Rattle.std.proofs.Common.{◌≡◌, ℕ, ◌+◌, ◌^◌, ◌<◌, ◌≤◌, List, [], ◌∷◌, ◌++◌, fold, length, map, sum, Some, refl, sym, ap, ap₂, subst, ◌∙◌, arith, append_assoc, append-nil, length-append}
 use Rattle.std.specs.Bool.{⊤}
 use Rattle.std.specs.List.{AllByRecursion, slice_get}
 use Rattle.std.specs.Option.{option_map}
 use Rattle.std.proofs.lemmas.List.{length-map, map-append}
-use Rattle.pdw_algebra.specs.declared.tree.Tree.{Tree}
 use Rattle.pdw_base.specs.Schema.{Columns}
 use Rattle.pdw_base.specs.declared.schema.ColId.{ColId}
 use Rattle.pdw_catalog.specs.Catalog.{Tables}
-use Rattle.pdw_explore.proofs.GrowLaws.{Finds, Goes, Holds, Moved, after, finds-more, goes-append, goes-none, holds-left, holds-right, kept, moved-append, moved-more}
+use Rattle.pdw_explore.proofs.GrowLaws.{Finds, Goes, Holds, Moved, after, goes-append, goes-none, holds-left, holds-right, kept, moved-append, moved-more}
 use Rattle.pdw_explore.specs.Grown.{level_at}
 use Rattle.pdw_explore.specs.declared.grown.Grown.{Grown}
 use Rattle.pdw_groups.proofs.OrderLaws.{at-left, found}
 use Rattle.pdw_groups.specs.Block.{BlockLeaf}
-use Rattle.pdw_groups.specs.Group.{GroupOf, id_of, kept_group}
-use Rattle.pdw_groups.specs.Memo.{all_written}
+use Rattle.pdw_groups.specs.Group.{id_of, kept_group}
 use Rattle.pdw_groups.specs.Node.{Before, Node, block_leaves, blocks_in, groups_in_turn, operators_in, own_group, own_in_turn, parts_in_turn, passed, passed_all, schema_of_tree}
 use Rattle.pdw_groups.specs.Sets.{side_of}
 use Rattle.pdw_groups.specs.declared.block.BlockPart.{BlockPart}

@@ -9,7 +9,7 @@ use Rattle.pdw_base.specs.declared.schema.ColId.{ColId}
 use Rattle.pdw_explore.proofs.RoomLaws.{kept-most}
 use Rattle.pdw_groups.proofs.SetGroupLemmas.{below-length}
 use Rattle.pdw_groups.specs.Level.{below, has_set}
-use Rattle.pdw_groups.specs.Sets.{inside_side, kept_set, kept_sets, kept_single, kept_singles, one_if}
+use Rattle.pdw_groups.specs.Sets.{kept_set, kept_sets, kept_single, kept_singles, one_if}
 use Rattle.pdw_groups.specs.declared.block.Level.{Level}
 use Rattle.pdw_groups.specs.declared.key.GroupId.{GroupId}
 use Rattle.pdw_groups.specs.declared.sets.Side.{Side}

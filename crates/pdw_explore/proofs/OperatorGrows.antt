@@ -1,5 +1,5 @@
 -- Operators and groupings of a written tree become those at other levels.
-use Rattle.std.proofs.Common.{◌≡◌, ℕ, suc, ◌+◌, ◌-◌, ◌^◌, ◌<◌, ◌≤◌, List, [], ◌∷◌, ◌++◌, length, map, Some, refl, sym, ap, ap₂, subst, ◌∙◌, arith, append_assoc, append-nil, length-append}
+use Rattle.std.proofs.Common.{◌≡◌, ℕ, ◌+◌, ◌-◌, ◌<◌, ◌≤◌, List, [], ◌∷◌, ◌++◌, length, map, Some, refl, sym, ap, ap₂, subst, ◌∙◌, arith, append_assoc, length-append}
 use Rattle.std.specs.List.{AllByRecursion, slice_get}
 use Rattle.std.specs.Option.{option_map}
 use Rattle.std.proofs.lemmas.List.{length-map, map-append}
@@ -10,17 +10,16 @@ use Rattle.pdw_base.specs.declared.schema.ColId.{ColId}
 use Rattle.pdw_catalog.specs.Catalog.{Tables}
 use Rattle.pdw_expr.specs.declared.agg.Agg.{Agg}
 use Rattle.pdw_explore.proofs.GrowLaws.{Finds, Goes, Holds, Moved, after, finds-map, finds-range, goes-append, goes-one, kept, moved-more}
-use Rattle.pdw_explore.proofs.InTurn.{GoesNode, GrowAll, Grows, HasSchema, InTurn, Starts, all-blocks, all-count, all-operators, at_levels, in-turn, most, passed-starts}
-use Rattle.pdw_explore.specs.Grown.{CanStay, renumbered_expr}
+use Rattle.pdw_explore.proofs.InTurn.{GoesNode, GrowAll, Grows, HasSchema, Starts, all-blocks, all-count, all-operators, at_levels, in-turn, most, passed-starts}
+use Rattle.pdw_explore.specs.Grown.{renumbered_expr}
 use Rattle.pdw_explore.specs.declared.grown.Grown.{Grown}
 use Rattle.pdw_groups.proofs.OrderLaws.{at-end, at-left}
 use Rattle.pdw_groups.specs.Columns.{interesting_in, partial_schema}
 use Rattle.pdw_groups.specs.Group.{Child, ExprOf, GroupOf, id_of, kept_expr, kept_group}
 use Rattle.pdw_groups.specs.Memo.{all_written}
-use Rattle.pdw_groups.specs.Node.{Before, Node, groups_in_turn, grouping_exprs, grouping_groups, grouping_node, operator_node, own_group, own_in_turn, partial_group, passed, passed_all, schema_of_tree, whole_group}
+use Rattle.pdw_groups.specs.Node.{Before, Node, groups_in_turn, grouping_exprs, grouping_node, operator_node, own_group, own_in_turn, partial_group, passed, passed_all, schema_of_tree, whole_group}
 use Rattle.pdw_groups.specs.declared.block.BlockPart.{BlockPart}
 use Rattle.pdw_groups.specs.declared.block.Level.{Level}
-use Rattle.pdw_groups.specs.declared.group.Expr.{Expr}
 use Rattle.pdw_groups.specs.declared.group.Group.{Group}
 use Rattle.pdw_groups.specs.declared.key.GroupId.{GroupId}
 use Rattle.pdw_groups.specs.declared.key.GroupKey.TheVariants as key

@@ -1,10 +1,10 @@
 -- A written block's second groups stay, and in the place of its sets come those of its level.
-use Rattle.std.proofs.Common.{◌≡◌, ℕ, zero, suc, ◌+◌, ◌-◌, ◌^◌, ◌<◌, ◌≤◌, ◌==◌, leb, Bool, true, false, cond, List, [], ◌∷◌, ◌++◌, filter, fold, length, map, Some, refl, sym, ap, ap₂, subst, ◌∙◌, arith, append_assoc, append-nil, length-append, eq-eqb, ne_eqb, true≢false, if◌then◌else◌}
+use Rattle.std.proofs.Common.{◌≡◌, ℕ, suc, ◌+◌, ◌-◌, ◌^◌, ◌<◌, ◌≤◌, leb, Bool, true, false, cond, List, [], ◌∷◌, ◌++◌, filter, length, map, Some, refl, sym, ap, ap₂, subst, ◌∙◌, arith, append-nil, length-append, eq-eqb, ne_eqb, true≢false, if◌then◌else◌}
 use Rattle.std.specs.Bool.{⊤}
 use Rattle.std.specs.List.{AllByRecursion, flat_map, slice_get, slice_index_or}
 use Rattle.std.specs.Option.{option_map}
-use Rattle.std.proofs.lemmas.Bool.{and_parts, leb-true}
-use Rattle.std.proofs.lemmas.List.{length-map, map-append}
+use Rattle.std.proofs.lemmas.Bool.{and_parts}
+use Rattle.std.proofs.lemmas.List.{length-map}
 use Rattle.std.proofs.lemmas.Option.{slice_get_within}
 use Rattle.std.proofs.lemmas.Simd.{map-map}
 use Rattle.pdw_algebra.specs.Schema.{rising}
@@ -13,24 +13,23 @@ use Rattle.pdw_base.specs.declared.schema.ColId.{ColId}
 use Rattle.pdw_catalog.specs.Catalog.{Tables}
 use Rattle.pdw_expr.specs.declared.cond.Cond.{Cond}
 use Rattle.pdw_explore.proofs.GrowLaws.{Finds, Goes, after, finds-more, goes-append, goes-none, goes-one, index-found, kept}
-use Rattle.pdw_explore.proofs.InTurn.{HasSchema, at_levels, most}
+use Rattle.pdw_explore.proofs.InTurn.{HasSchema, most}
 use Rattle.pdw_explore.proofs.InterestingLaws.{some-again}
 use Rattle.pdw_explore.proofs.OperatorGrows.{one-renumbered}
-use Rattle.pdw_explore.specs.Grown.{CanExplore, CanStay, after_leaves, explored, grown_all, grown_with, is_whole, last_of, leaf_at, left_out, level_at, new_number, no_block, no_group, part_at, set_grown, stays, with_sets}
+use Rattle.pdw_explore.specs.Grown.{CanExplore, CanStay, after_leaves, explored, grown_with, is_whole, last_of, leaf_at, left_out, level_at, new_number, no_block, no_group, part_at, set_grown, stays, with_sets}
 use Rattle.pdw_explore.specs.declared.grown.Grown.{Grown}
 use Rattle.pdw_groups.proofs.CountLaws.{chosen-whole, power-ones, whole-set}
 use Rattle.pdw_groups.proofs.KeptLaws.{sets-kept}
 use Rattle.pdw_groups.proofs.OrderLaws.{at-left, found}
 use Rattle.pdw_groups.specs.Block.{BlockLeaf, inside_leaf, leaf_filtered, own_child, second_group, second_groups, set_group}
 use Rattle.pdw_groups.specs.Columns.{interesting_in}
-use Rattle.pdw_groups.specs.Group.{GroupOf, id_of, kept_expr, kept_group}
+use Rattle.pdw_groups.specs.Group.{GroupOf, id_of, kept_group}
 use Rattle.pdw_groups.specs.Level.{below, has_set, is_one, is_several, lefts, set_of}
 use Rattle.pdw_groups.specs.Meaning.{exactly}
 use Rattle.pdw_groups.specs.Sets.{all_flags, join_at, kept_part, kept_seconds, kept_sets, kept_singles, schemas, side_of}
 use Rattle.pdw_groups.specs.declared.block.BlockPart.{BlockPart}
 use Rattle.pdw_groups.specs.declared.block.Level.{Level}
 use Rattle.pdw_groups.specs.declared.block.Level.TheVariants as level
-use Rattle.pdw_groups.specs.declared.group.Expr.{Expr}
 use Rattle.pdw_groups.specs.declared.group.Group.{Group}
 use Rattle.pdw_groups.specs.declared.key.GroupId.{GroupId}
 use Rattle.pdw_groups.specs.declared.key.GroupKey.TheVariants as key

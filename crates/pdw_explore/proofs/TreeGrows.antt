@@ -1,29 +1,27 @@
 -- The written memo of a tree becomes its memo at the levels.
-use Rattle.std.proofs.Common.{◌≡◌, ℕ, zero, suc, ◌+◌, ◌-◌, ◌*◌, ◌^◌, ◌<◌, ◌≤◌, true, false, List, [], ◌∷◌, ◌++◌, fold, length, map, Some, refl, sym, ap, ap₂, subst, ◌∙◌, arith, append_assoc, append-nil, length-append, true≢false}
+use Rattle.std.proofs.Common.{◌≡◌, ℕ, suc, ◌+◌, ◌<◌, ◌≤◌, true, List, [], ◌∷◌, ◌++◌, length, map, Some, refl, sym, ap, ap₂, subst, ◌∙◌, arith, append_assoc, append-nil, length-append}
 use Rattle.std.specs.List.{AllByRecursion, flat_map, slice_get}
-use Rattle.std.specs.Option.{option_map}
 use Rattle.std.proofs.lemmas.Option.{slice_get_within}
 use Rattle.std.proofs.lemmas.List.{length-map}
 use Rattle.std.proofs.lemmas.List.Folds.{flat_map-map}
 use Rattle.pdw_algebra.proofs.TreeFolds.{Inductive, by_trees, fold-block, fold-filter, fold-group, fold-join, fold-project, fold-scan}
-use Rattle.pdw_algebra.proofs.WellFormedParts.{BlockParts, IsSound, sound-block, sound-child, sound-filter, sound-join, sound-project, sound-tree}
+use Rattle.pdw_algebra.proofs.WellFormedParts.{IsSound, sound-block, sound-child, sound-filter, sound-join, sound-project, sound-tree}
 use Rattle.pdw_algebra.specs.Schema.{rising}
 use Rattle.pdw_algebra.specs.Shape.{Shape, columns_of, leaves_fit, shape_of, shape_step}
 use Rattle.pdw_algebra.specs.WellFormed.{IsWellFormed}
 use Rattle.pdw_algebra.specs.declared.tree.Tree.{Tree}
 use Rattle.pdw_algebra.specs.declared.tree.Tree.TheVariants as tree
-use Rattle.pdw_base.specs.Schema.{Columns}
 use Rattle.pdw_base.specs.declared.schema.ColId.{ColId}
 use Rattle.pdw_catalog.specs.Catalog.{Tables}
 use Rattle.pdw_expr.specs.declared.cond.Cond.{Cond}
 use Rattle.pdw_explore.proofs.BlockGrows.{LeavesReady, OwnGoes, own-goes}
-use Rattle.pdw_explore.proofs.GrowLaws.{Finds, Goes, Holds, IsMoved, Moved, after, finds-more, goes-append, holds-left, holds-right, kept, moved-append, moved-more}
+use Rattle.pdw_explore.proofs.GrowLaws.{Finds, Holds, IsMoved, Moved, after, finds-more, goes-append, holds-left, holds-right, kept, moved-append, moved-more}
 use Rattle.pdw_explore.proofs.InTurn.{GoesNode, GrowAll, Grows, HasSchema, InTurn, Starts, all-blocks, all-count, all-operators, all-trees, at_levels, blocks-passed, in-turn, most}
 use Rattle.pdw_explore.proofs.OperatorGrows.{Ends, ends-append, grouping-grows, node-from, operator-grows}
 use Rattle.pdw_explore.proofs.RoomLaws.{few-fit, own-count}
 use Rattle.pdw_explore.proofs.SchemaLaws.{rising-all}
-use Rattle.pdw_explore.proofs.SetGrows.{OneLeaf, SameLeaves, leaf_id}
-use Rattle.pdw_explore.specs.Grown.{after_leaves, level_at}
+use Rattle.pdw_explore.proofs.SetGrows.{SameLeaves, leaf_id}
+use Rattle.pdw_explore.specs.Grown.{after_leaves}
 use Rattle.pdw_explore.specs.declared.grown.Grown.{Grown}
 use Rattle.pdw_groups.proofs.BlockWhole.{AllInside, some-leaf}
 use Rattle.pdw_groups.proofs.NodeOrder.{block-inside}
@@ -31,11 +29,10 @@ use Rattle.pdw_groups.proofs.OrderLaws.{found}
 use Rattle.pdw_groups.specs.Block.{BlockLeaf, block_groups}
 use Rattle.pdw_groups.specs.Group.{GroupOf, id_of, kept_group}
 use Rattle.pdw_groups.specs.Memo.{all_written}
-use Rattle.pdw_groups.specs.Node.{Before, Node, block_leaves, block_node, blocks_in, groups_in_turn, node_of, node_step, own_block_groups, own_in_turn, own_part, parts_in_turn, passed, passed_all, schema_of_tree}
+use Rattle.pdw_groups.specs.Node.{Before, Node, block_leaves, block_node, groups_in_turn, node_of, node_step, own_block_groups, own_in_turn, own_part, parts_in_turn, passed, passed_all, schema_of_tree}
 use Rattle.pdw_groups.specs.Sets.{side_of}
 use Rattle.pdw_groups.specs.declared.block.BlockPart.{BlockPart}
 use Rattle.pdw_groups.specs.declared.block.Level.{Level}
-use Rattle.pdw_groups.specs.declared.block.Level.TheVariants as level
 use Rattle.pdw_groups.specs.declared.group.Group.{Group}
 use Rattle.pdw_groups.specs.declared.key.GroupId.{GroupId}
 

@@ -1,11 +1,10 @@
-use Rattle.std.proofs.Common.{◌≡◌, ◌+◌, ◌^◌, ◌<◌, ◌≤◌, ◌++◌, length, map, sym, ap, subst, ◌∙◌, arith, length-append}
+use Rattle.std.proofs.Common.{◌^◌, ◌<◌, length, sym, ap, subst, ◌∙◌, arith, length-append}
 use Rattle.std.specs.List.{AllByRecursion}
 use Rattle.std.proofs.lemmas.List.{length-map}
 use Rattle.pdw_explore.proofs.FewLeaves.{few-leaves}
 use Rattle.pdw_explore.proofs.Loops.{after-most, sets-most, sides-range}
 use Rattle.pdw_explore.specs.Grown.{leaf_at}
 use Rattle.pdw_groups.proofs.SingleLemmas.{kept_singles-length}
-use Rattle.pdw_groups.specs.declared.sets.Side.{Side}
 use Rattle.pdw_explore.proofs.grown.explore_block.Goals as goal
 
 pub after_leaves-first-requires : goal.after_leaves-first-requires

@@ -1,4 +1,4 @@
-use Rattle.std.proofs.Common.{◌≡◌, ◌+◌, ◌++◌, ◌∷◌, [], drop, ap, ap₂, ◌∙◌, arith, if◌then◌else◌, ℕ, ◌≤◌, Bool, true, false}
+use Rattle.std.proofs.Common.{◌+◌, ◌++◌, ◌∷◌, [], drop, ap, ap₂, ◌∙◌, arith, if◌then◌else◌, ℕ, ◌≤◌, Bool, true, false}
 use Rattle.std.specs.List.{list_any}
 use Rattle.pdw_explore.proofs.Loops.{singles-next}
 use Rattle.pdw_groups.specs.Sets.{kept_singles}

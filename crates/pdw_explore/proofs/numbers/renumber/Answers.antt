@@ -1,4 +1,4 @@
-use Rattle.std.proofs.Common.{◌≡◌, ◌<◌, get_or, length, sym, ap, subst, ◌∙◌, arith}
+use Rattle.std.proofs.Common.{◌<◌, get_or, length, sym, ap, subst, ◌∙◌, arith}
 use Rattle.std.specs.List.{slice_set}
 use Rattle.pdw_explore.proofs.Loops.{all-later, set-next, still-holds}
 use Rattle.pdw_explore.specs.Grown.{new_number}
