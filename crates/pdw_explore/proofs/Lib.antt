@@ -1,5 +1,11 @@
 -- the rule of the budget, worked out by hand
 pub mod LevelsRows
+-- how many joins a block has at a level
+pub mod Totals
+pub mod SubsetCounts
+pub mod LevelCounts
+pub mod SetJoins
+pub mod JoinCounts
 -- counts of few leaves
 pub mod FewLeaves
 -- interesting columns of some leaves

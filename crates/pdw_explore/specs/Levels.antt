@@ -1,5 +1,5 @@
 -- The levels of blocks: how far the joins of each are explored within a budget of join expressions.
-use Rattle.std.specs.Prelude.{ℕ, ◌+◌, ◌-◌, ◌*◌, ◌^◌, ◌<◌, leb, List, [], ◌∷◌, map, length, slice_index_or, if◌then◌else◌}
+use Rattle.std.specs.Prelude.{ℕ, ◌+◌, ◌-◌, ◌*◌, ◌^◌, leb, List, [], ◌∷◌, map, length, slice_index_or, if◌then◌else◌}
 use Rattle.pdw_groups.specs.declared.block.BlockPart.{BlockPart}
 use Rattle.pdw_groups.specs.declared.block.Level.{Level}
 use Rattle.pdw_groups.specs.declared.block.Level.TheVariants as level
@@ -17,6 +17,12 @@ linear_count leaves = if leb 2 leaves then leaves * 2 ^ leaves - (2 * leaves + l
 -- the joins from left to right
 abbrev pub written_count : ℕ → ℕ
 written_count leaves = leaves - 1
+
+-- as many as the level has
+abbrev pub level_count : Level → ℕ → ℕ
+level_count level.Full leaves = full_count leaves
+level_count level.Linear leaves = linear_count leaves
+level_count level.Written leaves = written_count leaves
 
 -- ---- the choice
 

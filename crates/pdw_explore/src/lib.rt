@@ -3,10 +3,12 @@
 
 mod blocks;
 mod grown;
+mod laws;
 mod leaves;
 mod levels;
 mod memo;
 mod numbers;
 mod turned;
 
+pub use laws::a_block_has_the_joins_of_its_level;
 pub use memo::explore;
