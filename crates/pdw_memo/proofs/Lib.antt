@@ -16,3 +16,5 @@ pub mod MemoDiffers
 pub mod MemoMeans
 pub mod MemoColumns
 pub mod MemoRows
+pub mod Weights
+pub mod MemoWeights

@@ -198,7 +198,7 @@ module _ (tables : Tables) where
     groups-apart (group ∷ some) apart among = (exprs-apart group.exprs apart.0 among.0, groups-apart some apart.1 among.1)
 
 -- children that come before their groups are among all
-all-among : (before groups : List GroupOf) → InOrder before groups → AllByRecursion (λ group. AllByRecursion (λ expr. AllByRecursion (IsAmong (before ++ groups)) expr.children) group.exprs) groups
+pub all-among : (before groups : List GroupOf) → InOrder before groups → AllByRecursion (λ group. AllByRecursion (λ expr. AllByRecursion (IsAmong (before ++ groups)) expr.children) group.exprs) groups
 all-among before [] order = tt
 all-among before (group ∷ groups) order = (
   more group.exprs order.0,

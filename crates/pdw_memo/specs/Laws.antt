@@ -1,5 +1,5 @@
 -- What holds of every memo.
-use Rattle.std.specs.Prelude.{◌≡◌, ◌≢◌, ⊤, ℕ, Bool, true, is_some, AllPairs, List, [], ◌∷◌, map, Option, Some}
+use Rattle.std.specs.Prelude.{◌≡◌, ◌≢◌, ⊤, ℕ, suc, ◌^◌, ◌<◌, ◌≤◌, Bool, true, is_some, AllPairs, List, [], ◌∷◌, length, map, sum_by, Option, Some}
 use Rattle.std.specs.List.{AllByRecursion, slice_get}
 use Rattle.pdw_algebra.specs.Shape.{are_apart, has_number}
 use Rattle.pdw_base.specs.declared.schema.ColId.{ColId}
@@ -68,3 +68,13 @@ pub record IsScanOf (table : Option Table) (cols : List (ColId × ℕ)) (by_hash
 abbrev pub ReadsItsTable : Tables → Op → List GroupId → Type 0
 ReadsItsTable tables (op.Scan table alias cols hash replicated) children = IsScanOf (table_named table tables) cols hash replicated children
 ReadsItsTable tables _ children = ⊤
+
+-- ---- weights
+
+-- each group has a weight, at most 2 ^ 20, and each of its expressions weighs one more than its children together and at most the
+-- group: so a plan of the group, by one of its expressions over a plan of each child, has at most as many operators as the group weighs
+pub record IsLight (groups : List Group) : Type 0 where
+  pub weight : ℕ → ℕ
+  pub each : (number : ℕ) (group : Group) → slice_get groups number ≡ Some group
+      → AllByRecursion (λ (expr : Expr). suc (sum_by (λ (child : GroupId). weight child.0) expr.children) ≤ weight number) group.exprs
+  pub few : (number : ℕ) → number < length groups → weight number ≤ 2 ^ 20

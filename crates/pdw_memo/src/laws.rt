@@ -8,7 +8,7 @@ ghost use Rattle.pdw_catalog.specs.Database.{Database};
 ghost use Rattle.pdw_groups.specs.Meaning.{exactly};
 ghost use Rattle.pdw_groups.specs.Memo.{AdmitsAt, Contents, EachExprStands};
 ghost use Rattle.pdw_groups.specs.declared.group.Group.{Group as GroupIn};
-ghost use Rattle.pdw_memo.specs.Laws.{HasApartSides, HasDifferentChildren, HasItsColumns, MakesNoKey, OfEachExpr, ReadsItsTable, meanings_in};
+ghost use Rattle.pdw_memo.specs.Laws.{HasApartSides, HasDifferentChildren, HasItsColumns, IsLight, MakesNoKey, OfEachExpr, ReadsItsTable, meanings_in};
 ghost use Rattle.pdw_memo.specs.Memo.{IsMemo};
 
 /// Each group of a memo has a meaning. Each of its expressions has children of smaller numbers and stands for the group: over
@@ -41,4 +41,11 @@ pub fn a_memos_scans_are_of_its_tables()
 /// No two expressions of a group have the same children, in their order.
 pub fn expressions_of_a_group_differ()
     ensures { (contents : Contents) → IsMemo contents → AllByRecursion HasDifferentChildren contents.groups }
+{}
+
+/// Each group of a memo has a weight of at most 2 ^ 20, and each of its expressions weighs one more than its children together
+/// and at most the group. So a plan of any group has at most 2 ^ 20 operators, and where no operator costs more than a bound, the
+/// plan costs at most 2 ^ 20 times the bound.
+pub fn memos_are_light()
+    ensures { (contents : Contents) → IsMemo contents → IsLight contents.groups }
 {}
