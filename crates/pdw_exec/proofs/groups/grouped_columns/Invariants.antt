@@ -1,0 +1,6 @@
+use Rattle.std.proofs.Common.{◌≡◌, ◌++◌, map, take}
+use Rattle.pdw_algebra.specs.Shape.{aggregate_column, key_column}
+use Rattle.pdw_exec.proofs.groups.grouped_columns.Given as goal
+
+abbrev pub invariant-loop-agg : goal.invariant-loop-agg
+invariant-loop-agg l = l.made.items ≡ map (key_column l.columns) l.keys ++ map (aggregate_column l.columns) (take l.agg-index l.aggs)
