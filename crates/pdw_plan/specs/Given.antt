@@ -1,5 +1,5 @@
 -- The rows that a plan gives at each node of an appliance, and what of them crosses between the nodes.
-use Rattle.std.specs.Prelude.{◌≡◌, ℕ, List, [], ◌∷◌, ◌++◌, map, Option, Some, None}
+use Rattle.std.specs.Prelude.{List, [], ◌∷◌, ◌++◌, map, Option, Some, None}
 use Rattle.std.specs.List.{find, flat_map, slice_get}
 use Rattle.pdw_base.specs.Schema.{Env}
 use Rattle.pdw_base.specs.declared.node.Node.{Node}
@@ -10,7 +10,6 @@ use Rattle.pdw_groups.specs.Meaning.{given}
 use Rattle.pdw_groups.specs.declared.group.Expr.{Expr}
 use Rattle.pdw_groups.specs.declared.group.Group.{Group}
 use Rattle.pdw_groups.specs.declared.key.GroupId.{GroupId}
-use Rattle.pdw_groups.specs.declared.op.Op.{Op}
 use Rattle.pdw_move.specs.Move.{property_after}
 use Rattle.pdw_move.specs.declared.kinds.Move.{Move}
 use Rattle.pdw_ways.specs.Ways.{are_groups_of}
@@ -38,11 +37,12 @@ pub record Given : Type 0 where
   pub crossings : List Crossing
 
 -- the expression of a group that is over children that make these; no other expression of the group has the same children
+abbrev pub expr_among : List Made → Option Group → Option Expr
+expr_among below None = None
+expr_among below (Some group) = find (λ (expr : Expr). are_groups_of below expr.children) group.exprs
+
 abbrev pub expr_over : List Group → GroupId → List Made → Option Expr
-expr_over groups number below = find-in (slice_get groups number.0) where
-  find-in : Option Group → Option Expr
-  find-in None = None
-  find-in (Some group) = find (λ expr. are_groups_of below expr.children) group.exprs
+expr_over groups number below = expr_among below (slice_get groups number.0)
 
 -- the rows that it makes at each node of those that the children give there
 abbrev pub applied : Contents → Option Expr → List PlacedRows → PlacedRows

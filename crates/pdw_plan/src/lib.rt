@@ -1,4 +1,13 @@
 //! Plans over the groups of a memo: which are well-formed, what they cost, and the rows that they give.
 #![tactic(auto)]
 
+mod laws;
+mod node;
+mod problem;
+mod query;
+mod walk;
+
+pub use laws::{plans_for_the_query_return_its_rows, plans_give_rows_of_their_group};
 pub use pdw_ways::{Bounds, Made, Plan, PlanFault, Way};
+pub use problem::Problem;
+pub use query::well_formed;
