@@ -8,3 +8,5 @@ pub mod ColumnLemmas
 pub mod MeasuredLemmas
 -- statistics worked out by hand
 mod MeasuredRows
+-- the book before and after it is changed
+pub mod BookLaws

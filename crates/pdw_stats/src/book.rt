@@ -1,7 +1,7 @@
 ghost use Rattle.std.specs.Prelude.{◌≡◌, [], None, Some, IfSome, OnOk, OnErr};
 ghost use Rattle.std.specs.Option.{option_copied};
 ghost use Rattle.pdw_stats.specs.Stats.{IsInRange};
-ghost use Rattle.pdw_stats.specs.Book.{Changes, stats_of};
+ghost use Rattle.pdw_stats.specs.Book.{Changes, stats_of, with_stats, without_stats};
 
 use crate::stats::Stats;
 use indexmap::IndexMap;
@@ -39,6 +39,7 @@ impl StatsBook {
     pub fn put(&mut self, alloc: Global, table: &Str, s: Stats) -> Result<(), NoMemory>
         requires { IsInRange s }
         ensures ok { OnOk result (Changes self.old self.new table.now (Some s)) }
+        ensures kept { OnOk result (self.new ≡ with_stats table.now s self.old) }
         ensures err { OnErr result (self.new ≡ self.old) }
     {
         let name = table.try_copy(alloc)?;
@@ -56,7 +57,8 @@ impl StatsBook {
 
     /// Removes the statistics of a table, if there are any. It takes no memory.
     pub fn remove(&mut self, table: &Str)
-        ensures { Changes self.old self.new table.now None }
+        ensures changes { Changes self.old self.new table.now None }
+        ensures kept { self.new ≡ without_stats table.now self.old }
     {
         let _ = self.stats.shift_remove(table);
     }
