@@ -16,3 +16,5 @@ pub mod RunLemmas
 pub mod StepLemmas
 -- small trees worked out by hand
 mod HandRows
+-- equal bags
+pub mod OrderLaws

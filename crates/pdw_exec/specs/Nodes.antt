@@ -1,6 +1,7 @@
 -- What a node has to run a local tree on: its rows of each table of the appliance, and of each temporary table.
 use Rattle.std.specs.List.{AllByRecursion, zip}
-use Rattle.std.specs.Prelude.{All, ℕ, List, [], map}
+use Rattle.std.specs.Prelude.{⊤, All, ℕ, List, [], ◌∷◌, map}
+use Rattle.pdw_base.specs.SameBag.{SameBag}
 use Rattle.pdw_base.specs.Schema.{Columns, Env, FitsColumns, cell}
 use Rattle.pdw_base.specs.declared.node.Node.{Node}
 use Rattle.pdw_base.specs.declared.node.Node.TheVariants as node
@@ -27,3 +28,10 @@ module _ (temps : List Placed) (schemas : List Columns) (node : Node) where
   -- the rows of each temporary table at the node fit its schema
   abbrev pub FitTemporaries : Type 0
   FitTemporaries = AllByRecursion (λ table. All (FitsColumns table.1) (rows_at table.0 node)) (zip temps schemas)
+
+-- temporary tables that differ in the order of their rows alone
+abbrev pub SameTemporaries : List Placed → List Placed → Type 0
+SameTemporaries [] [] = ⊤
+SameTemporaries [] (other ∷ others) = ⊥
+SameTemporaries (temp ∷ temps) [] = ⊥
+SameTemporaries (temp ∷ temps) (other ∷ others) = ((node : Node) → SameBag (rows_at temp node) (rows_at other node)) × SameTemporaries temps others
