@@ -1,5 +1,5 @@
 -- What the groups of a block mean is read from the block.
-use Rattle.std.proofs.Common.{◌≡◌, ℕ, suc, ◌+◌, ◌^◌, ◌==◌, ◌≤◌, ◌<◌, append-nil, Bool, true, false, true≢false, List, [], ◌∷◌, ◌++◌, length, map, filter, Some, refl, sym, ap, ap₂, subst, ◌∙◌, arith, eqb-true, eq-eqb, if◌then◌else◌}
+use Rattle.std.proofs.Common.{◌≡◌, ℕ, suc, ◌+◌, ◌^◌, ◌==◌, ◌≤◌, append-nil, Bool, true, false, true≢false, List, [], ◌∷◌, length, map, filter, Some, refl, sym, ap, subst, ◌∙◌, arith, eqb-true, eq-eqb, if◌then◌else◌}
 use Rattle.std.specs.Int.{bit_at}
 use Rattle.std.specs.List.{AllByRecursion, flat_map, list_all, slice_get}
 use Rattle.std.proofs.lemmas.List.Folds.{flat_map-map}
@@ -25,7 +25,7 @@ use Rattle.pdw_groups.specs.declared.key.GroupId.{GroupId}
 use Rattle.pdw_parts.proofs.PartLaws.{chosen-map, chosen-only}
 use Rattle.pdw_parts.specs.Part.{LeafSet, chosen, columns_in, inside, is_inside, only}
 use Rattle.pdw_sizes.proofs.EachLaws.{Each, StandAt, each-append, stand-itself}
-use Rattle.pdw_sizes.specs.Reading.{EachMeansTree, MeansTree, Reads, ReadsSet}
+use Rattle.pdw_sizes.specs.Reading.{EachMeansTree, MeansTree, Reads}
 use Rattle.pdw_sizes.specs.Sizes.{schema_of_meaning}
 
 -- ---- one leaf as a set

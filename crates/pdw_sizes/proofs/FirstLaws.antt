@@ -1,5 +1,5 @@
 -- What is known of a group of a memo by what was read of it.
-use Rattle.std.proofs.Common.{◌≡◌, ℕ, ◌<◌, ◌≤◌, Bool, List, [], ◌∷◌, filter, length, map, Option, Some, refl, sym, ap, subst, ◌∙◌, arith}
+use Rattle.std.proofs.Common.{◌≡◌, ℕ, ◌<◌, ◌≤◌, Bool, List, [], ◌∷◌, filter, length, Option, Some, sym, ap, subst, ◌∙◌, arith}
 use Rattle.std.specs.List.{AllByRecursion, slice_get}
 use Rattle.pdw_algebra.specs.declared.tree.Tree.{Tree}
 use Rattle.pdw_algebra.specs.declared.tree.Tree.TheOpen.{Tree-F}
@@ -21,7 +21,7 @@ use Rattle.pdw_groups.specs.declared.op.Op.TheVariants as op
 use Rattle.pdw_memo.specs.Laws.{meanings_in}
 use Rattle.pdw_memo.specs.Memo.{IsMemo}
 use Rattle.pdw_parts.specs.Part.{chosen, is_inside}
-use Rattle.pdw_sizes.proofs.NumberedLaws.{estimate_at, estimates, filter-estimate, group-estimate, join-estimate, leaf_columns-numbered, leaf_rows-numbered, partial-estimate, partial_step, project-estimate, scan-estimate, set-estimate}
+use Rattle.pdw_sizes.proofs.NumberedLaws.{estimate_at, estimates, filter-estimate, group-estimate, join-estimate, leaf_columns-numbered, leaf_rows-numbered, partial-estimate, project-estimate, scan-estimate, set-estimate}
 use Rattle.pdw_sizes.specs.Estimate.{Estimate, aggregate_columns, estimate_step, join_rows, key_rows, rows_left, times}
 use Rattle.pdw_sizes.specs.Numbered.{columns_at, rows_at, set_columns, set_rows}
 use Rattle.pdw_sizes.specs.Reading.{EachMeansTree, IsFirst, IsSet, ReadsBy, ReadsOne, ReadsTwo}

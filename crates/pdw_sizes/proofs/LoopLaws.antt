@@ -1,11 +1,11 @@
 -- One step of the loops over conjuncts, keys, columns and leaves.
-use Rattle.std.proofs.Common.{◌≡◌, ◌≢◌, ℕ, zero, suc, ◌+◌, ◌<◌, ◌≤◌, ◌==◌, Bool, true, false, true≢false, cond, List, [], ◌∷◌, ◌++◌, length, filter, fold, max, min, Option, Some, None, is_some, take, get_or, refl, sym, ap, subst, ◌∙◌, arith, eqb-true, eq-eqb, ne_eqb, length-take, if◌then◌else◌}
+use Rattle.std.proofs.Common.{◌≡◌, ℕ, zero, suc, ◌+◌, ◌<◌, Bool, true, false, true≢false, cond, List, [], ◌∷◌, ◌++◌, length, filter, fold, Some, None, is_some, take, get_or, refl, ap, subst, ◌∙◌, arith, length-take, if◌then◌else◌}
 use Rattle.std.specs.List.{AllByRecursion, sum_by}
 use Rattle.std.specs.Map.{lookup}
 use Rattle.std.specs.Option.{option_or}
 use Rattle.std.proofs.lemmas.List.{take_more}
 use Rattle.std.proofs.lemmas.List.Sums.{fold-append, sum_by-append}
-use Rattle.pdw_base.proofs.Steps.{filter-one_more, fold-one_more, take-one_more}
+use Rattle.pdw_base.proofs.Steps.{filter-one_more, fold-one_more}
 use Rattle.pdw_base.specs.declared.schema.ColId.{ColId}
 use Rattle.pdw_expr.specs.declared.cond.Cond.{Cond}
 use Rattle.pdw_groups.proofs.SetLemmas.{chosen-push}

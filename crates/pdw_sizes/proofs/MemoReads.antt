@@ -1,5 +1,5 @@
 -- What each group of a memo means is read from it.
-use Rattle.std.proofs.Common.{◌≡◌, ℕ, ◌+◌, List, [], ◌++◌, map, Some, refl, sym, ap, subst, ◌∙◌, arith, append-nil}
+use Rattle.std.proofs.Common.{◌≡◌, ℕ, ◌+◌, [], ◌++◌, Some, refl, sym, ap, subst, ◌∙◌, arith, append-nil}
 use Rattle.std.specs.List.{slice_get}
 use Rattle.std.specs.Option.{option_map}
 use Rattle.std.proofs.lemmas.Option.{slice_get-map}
@@ -7,9 +7,8 @@ use Rattle.pdw_groups.proofs.OrderLaws.{found}
 use Rattle.pdw_groups.specs.Columns.{useful_columns}
 use Rattle.pdw_groups.specs.Group.{GroupOf, kept_group}
 use Rattle.pdw_groups.specs.Meaning.{Meaning}
-use Rattle.pdw_groups.specs.Memo.{Contents, at_first, groups_of, memo_of}
+use Rattle.pdw_groups.specs.Memo.{Contents, at_first, groups_of}
 use Rattle.pdw_groups.specs.Node.{node_of}
-use Rattle.pdw_groups.specs.declared.block.BlockPart.{BlockPart}
 use Rattle.pdw_groups.specs.declared.group.Group.{Group}
 use Rattle.pdw_memo.specs.Laws.{meanings_in}
 use Rattle.pdw_memo.specs.Memo.{IsMemo}

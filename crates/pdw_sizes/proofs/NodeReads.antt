@@ -1,11 +1,11 @@
 -- What the groups of a tree mean is read from its memo.
-use Rattle.std.proofs.Common.{◌≡◌, ◌≢◌, ℕ, zero, suc, ◌+◌, ◌-◌, ◌≤◌, ◌<◌, List, [], ◌∷◌, ◌++◌, length, map, get_or, AllPairs, Some, refl, sym, ap, ap₂, subst, ◌∙◌, arith, append_assoc, length-append}
+use Rattle.std.proofs.Common.{◌≡◌, ◌≢◌, ℕ, zero, suc, ◌+◌, ◌≤◌, ◌<◌, List, [], ◌∷◌, ◌++◌, length, map, get_or, AllPairs, Some, refl, sym, ap, subst, ◌∙◌, arith, append_assoc, length-append}
 use Rattle.std.specs.List.{AllByRecursion, slice_get}
 use Rattle.std.proofs.lemmas.List.{length-map}
 use Rattle.std.proofs.lemmas.Option.{slice_get-map, slice_get_within}
 use Rattle.pdw_algebra.proofs.TreeFolds.{Inductive, by_trees, fold-block, fold-filter, fold-group, fold-join, fold-project, fold-scan}
-use Rattle.pdw_algebra.proofs.WellFormedParts.{BlockParts, IsSound, Once, sound-block, sound-child, sound-filter, sound-join, sound-project, sound-tree}
-use Rattle.pdw_algebra.specs.Shape.{Shape, leaves_fit, shape_of, shape_step}
+use Rattle.pdw_algebra.proofs.WellFormedParts.{IsSound, Once, sound-block, sound-child, sound-filter, sound-join, sound-project, sound-tree}
+use Rattle.pdw_algebra.specs.Shape.{Shape, shape_of, shape_step}
 use Rattle.pdw_algebra.specs.WellFormed.{IsWellFormed}
 use Rattle.pdw_algebra.specs.declared.tree.Tree.{Tree}
 use Rattle.pdw_algebra.specs.declared.tree.Tree.TheVariants as tree
@@ -15,14 +15,12 @@ use Rattle.pdw_expr.specs.declared.agg.Agg.{Agg}
 use Rattle.pdw_expr.specs.declared.cond.Cond.{Cond}
 use Rattle.pdw_groups.proofs.NodeOrder.{Ordered, tree-ordered}
 use Rattle.pdw_groups.proofs.OrderLaws.{among-more, found}
-use Rattle.pdw_groups.specs.Block.{BlockLeaf}
 use Rattle.pdw_groups.specs.Columns.{hash_in, replicated_in}
-use Rattle.pdw_groups.specs.Group.{Child, GroupOf, IsAmong, id_of}
+use Rattle.pdw_groups.specs.Group.{GroupOf, IsAmong, id_of}
 use Rattle.pdw_groups.specs.Meaning.{Meaning, exactly}
 use Rattle.pdw_groups.specs.Node.{Before, Node, block_leaves, block_node, groups_in_turn, grouping_groups, grouping_node, node_of, node_step, operator_node, own_block_groups, own_group, own_in_turn, own_part, parts_in_turn, passed, passed_all, whole_group}
 use Rattle.pdw_groups.specs.declared.block.BlockPart.{BlockPart}
 use Rattle.pdw_groups.specs.declared.block.Level.{Level}
-use Rattle.pdw_groups.specs.declared.key.GroupId.{GroupId}
 use Rattle.pdw_groups.specs.declared.op.Op.{Op}
 use Rattle.pdw_groups.specs.declared.op.Op.TheVariants as op
 use Rattle.pdw_memo.proofs.Counts.{tree-counted}

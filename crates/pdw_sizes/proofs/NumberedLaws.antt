@@ -1,33 +1,22 @@
 -- What is reckoned of a group by its number is reckoned of what its reading names.
-use Rattle.std.proofs.Common.{◌≡◌, ℕ, ◌<◌, ◌≤◌, List, [], ◌∷◌, fold, map, filter, length, Option, Some, None, refl, sym, ap, ap₂, subst, ◌∙◌, arith}
-use Rattle.std.specs.List.{AllByRecursion, slice_get}
-use Rattle.std.proofs.lemmas.Option.{slice_get_within}
+use Rattle.std.proofs.Common.{◌≡◌, ℕ, List, [], ◌∷◌, fold, map, Option, Some, None, refl, sym, ap, ap₂, ◌∙◌}
+use Rattle.std.specs.List.{slice_get}
 use Rattle.pdw_algebra.specs.declared.tree.Tree.{Tree}
 use Rattle.pdw_algebra.specs.declared.tree.Tree.TheOpen.{Tree-F}
 use Rattle.pdw_algebra.specs.declared.tree.Tree.TheVariants as tree
-use Rattle.pdw_base.specs.Schema.{Columns}
 use Rattle.pdw_base.specs.declared.schema.ColId.{ColId}
 use Rattle.pdw_expr.specs.declared.agg.Agg.{Agg}
 use Rattle.pdw_expr.specs.declared.agg.JoinKind.{JoinKind}
 use Rattle.pdw_expr.specs.declared.cond.Cond.{Cond}
 use Rattle.pdw_expr.specs.declared.scalar.Scalar.{Scalar}
-use Rattle.pdw_groups.specs.Level.{set_of}
 use Rattle.pdw_groups.specs.Meaning.{Meaning, exactly, partial_of}
-use Rattle.pdw_groups.specs.Memo.{Contents}
-use Rattle.pdw_groups.specs.declared.block.BlockPart.{BlockPart}
-use Rattle.pdw_groups.specs.declared.group.Expr.{Expr}
 use Rattle.pdw_groups.specs.declared.key.GroupId.{GroupId}
-use Rattle.pdw_groups.specs.declared.op.Op.{Op}
-use Rattle.pdw_groups.specs.declared.op.Op.TheVariants as op
-use Rattle.pdw_memo.specs.Laws.{meanings_in}
-use Rattle.pdw_memo.specs.Memo.{IsMemo}
-use Rattle.pdw_parts.specs.Part.{chosen, is_inside}
 use Rattle.pdw_sizes.proofs.EstimateFolds.{estimate-block, estimate-filter, estimate-group, estimate-join, estimate-project, estimate-scan}
-use Rattle.pdw_sizes.specs.Estimate.{ColStats, Estimate, aggregate_columns, both_columns, estimate, estimate_step, item_columns, join_rows, key_rows, leaf_columns, leaf_rows, rows_left, scanned_columns, table_rows, times}
-use Rattle.pdw_sizes.specs.Numbered.{columns_at, columns_if, rows_at, rows_if, set_columns, set_rows}
-use Rattle.pdw_sizes.specs.Reading.{EachMeansTree, FirstMeaning, MeansTree, ReadsBy, ReadsOne, ReadsTwo, SetMeaning}
-use Rattle.pdw_sizes.specs.Sizes.{columns_of_meaning, partial_rows, rows_of_meaning}
-use Rattle.pdw_stats.specs.Book.{Book, stats_of}
+use Rattle.pdw_sizes.specs.Estimate.{Estimate, aggregate_columns, both_columns, estimate, estimate_step, key_rows, leaf_columns, leaf_rows, times}
+use Rattle.pdw_sizes.specs.Numbered.{columns_if, rows_if, set_columns, set_rows}
+use Rattle.pdw_sizes.specs.Reading.{EachMeansTree, ReadsOne, ReadsTwo}
+use Rattle.pdw_sizes.specs.Sizes.{partial_rows}
+use Rattle.pdw_stats.specs.Book.{Book}
 
 some-same : {X : Type 0} (a b : X) → Some a ≡ Some b → a ≡ b
 some-same a b same = cc

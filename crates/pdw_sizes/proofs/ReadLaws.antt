@@ -1,5 +1,5 @@
 -- What the code reads of a group of a memo.
-use Rattle.std.proofs.Common.{◌≡◌, ℕ, ◌<◌, List, [], ◌∷◌, length, get_or, Option, Some, refl, sym, ap, ap₂, subst, ◌∙◌, arith, ◌⊎◌, inl, inr}
+use Rattle.std.proofs.Common.{◌≡◌, ℕ, ◌<◌, List, length, get_or, Some, sym, ap, ap₂, subst, ◌∙◌, arith, ◌⊎◌, inl, inr}
 use Rattle.std.specs.List.{slice_get}
 use Rattle.std.specs.Option.{option_map}
 use Rattle.std.proofs.lemmas.Option.{slice_get-get_or, slice_get-map, slice_get_within}
@@ -17,7 +17,6 @@ use Rattle.pdw_sizes.proofs.MemoReads.{IsKnown, memo-means, memo-reads}
 use Rattle.pdw_sizes.specs.Numbered.{columns_at, columns_if, rows_at, rows_if}
 use Rattle.pdw_sizes.specs.Reading.{IsFirst, IsSet, Reads, ReadsBlock, ReadsBy, ReadsFirst, ReadsSet}
 use Rattle.pdw_sizes.specs.Sizes.{columns_of_meaning, rows_of_meaning, schema_of_meaning, size_of_meaning, sizes_in, width_of_schema}
-use Rattle.pdw_sizes.specs.declared.size.Size.{Size}
 use Rattle.pdw_stats.specs.Book.{Book}
 
 some-same : {X : Type 0} (a b : X) → Some a ≡ Some b → a ≡ b

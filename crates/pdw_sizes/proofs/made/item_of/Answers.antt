@@ -1,4 +1,4 @@
-use Rattle.std.proofs.Common.{Some, sym, ap, subst, ◌∙◌, ◌≡◌, true, false, get_or, eq-eqb, ne_eqb}
+use Rattle.std.proofs.Common.{sym, ap, subst, ◌∙◌, ◌≡◌, true, false, eq-eqb, ne_eqb}
 use Rattle.std.specs.Option.{option_and_then}
 use Rattle.pdw_base.specs.declared.schema.ColId.{ColId}
 use Rattle.pdw_expr.specs.declared.scalar.Scalar.{Scalar}

@@ -1,4 +1,4 @@
-use Rattle.std.proofs.Common.{ℕ, take, ap, ◌∙◌, min}
+use Rattle.std.proofs.Common.{take, ap, ◌∙◌, min}
 use Rattle.std.proofs.lemmas.List.{take_all}
 use Rattle.std.specs.List.{sum_by}
 use Rattle.pdw_base.specs.declared.schema.ColId.{ColId}
