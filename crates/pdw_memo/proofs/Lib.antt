@@ -18,3 +18,5 @@ pub mod MemoColumns
 pub mod MemoRows
 pub mod Weights
 pub mod MemoWeights
+pub mod LeftParts
+pub mod MemoExprs

@@ -39,6 +39,10 @@ OfEachExpr groups P = (number : ℕ) (group : Group) → slice_get groups number
 abbrev pub HasDifferentChildren : Group → Type 0
 HasDifferentChildren group = AllPairs (λ a b. a.children ≢ b.children) group.exprs
 
+-- a group has at least one expression
+abbrev pub HasExpression : Group → Type 0
+HasExpression group = 1 ≤ length group.exprs
+
 -- ---- joins
 
 -- the groups of two numbers have no column in common

@@ -8,7 +8,7 @@ ghost use Rattle.pdw_catalog.specs.Database.{Database};
 ghost use Rattle.pdw_groups.specs.Meaning.{exactly};
 ghost use Rattle.pdw_groups.specs.Memo.{AdmitsAt, Contents, EachExprStands};
 ghost use Rattle.pdw_groups.specs.declared.group.Group.{Group as GroupIn};
-ghost use Rattle.pdw_memo.specs.Laws.{HasApartSides, HasDifferentChildren, HasItsColumns, IsLight, MakesNoKey, OfEachExpr, ReadsItsTable, meanings_in};
+ghost use Rattle.pdw_memo.specs.Laws.{HasApartSides, HasDifferentChildren, HasExpression, HasItsColumns, IsLight, MakesNoKey, OfEachExpr, ReadsItsTable, meanings_in};
 ghost use Rattle.pdw_memo.specs.Memo.{IsMemo};
 
 /// Each group of a memo has a meaning. Each of its expressions has children of smaller numbers and stands for the group: over
@@ -48,4 +48,9 @@ pub fn expressions_of_a_group_differ()
 /// plan costs at most 2 ^ 20 times the bound.
 pub fn memos_are_light()
     ensures { (contents : Contents) → IsMemo contents → IsLight contents.groups }
+{}
+
+/// Each group of a memo has at least one expression.
+pub fn each_group_has_an_expression()
+    ensures { (contents : Contents) → IsMemo contents → AllByRecursion HasExpression contents.groups }
 {}
