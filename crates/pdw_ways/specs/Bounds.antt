@@ -1,8 +1,9 @@
 -- Bounds: what it costs at least to make the rows of each group under each property.
-use Rattle.std.specs.Prelude.{◌≡◌, ⊤, ◌≤◌, ◌+◌, ℕ, true, List, [], ◌∷◌, length, zip, Option, Some, None, fold, nat_lt, if◌then◌else◌}
+use Rattle.std.specs.Prelude.{◌≡◌, ⊤, ◌≤◌, ◌<◌, ◌^◌, ◌+◌, ℕ, suc, Bool, true, List, [], ◌∷◌, length, zip, Option, Some, None, fold, nat_lt, if◌then◌else◌}
 use Rattle.std.specs.List.{slice_get}
 use Rattle.std.specs.Map.{lookup}
-use Rattle.std.specs.Option.{option_and_then}
+use Rattle.std.specs.Option.{option_and_then, option_map}
+use Rattle.pdw_base.specs.declared.schema.ColId.{ColId}
 use Rattle.pdw_groups.specs.declared.group.Group.{Group}
 use Rattle.pdw_groups.specs.declared.key.GroupId.{GroupId}
 use Rattle.pdw_move.specs.declared.kinds.Prop.{Prop}
@@ -25,10 +26,18 @@ plus None more = None
 plus (Some number) None = None
 plus (Some number) (Some more) = Some (number + more)
 
+-- far below what numbers of 128 bits hold, so that sums of two fit
+abbrev pub IsSmall : Option ℕ → Type 0
+IsSmall None = ⊤
+IsSmall (Some bound) = bound < 2 ^ 126
+
 -- ---- bounds
 
 abbrev pub Bound : Type 0
 Bound = Made → Option ℕ
+
+abbrev pub AreSmall : Bound → Type 0
+AreSmall bound = (made : Made) → IsSmall (bound made)
 
 -- what bounds allow to some children together
 abbrev pub together : Bound → List Made → Option ℕ
@@ -67,10 +76,23 @@ module _ (groups : List Group) (costs : Costs) where
 
 -- ---- as they are kept: for each group a list over its properties
 
+-- the place of the first that passes
+abbrev pub place_among : {K : Type 0} → (K → Bool) → List K → Option ℕ
+place_among test [] = None
+place_among test (key ∷ keys) = if test key then Some 0 else option_map suc (place_among test keys)
+
+-- a list has one bound for each property of a group with these interesting columns
+abbrev pub bound_by : List ColId → List (Option ℕ) → Prop → Option ℕ
+bound_by interesting list prop = option_and_then (λ bound. bound) (lookup (is_same prop) (zip (properties_of interesting) list))
+
+-- the bounds of one group, for each of its properties
+abbrev pub row_bound : List ColId → List (Option ℕ) → Bound
+row_bound interesting list made = bound_by interesting list made.prop
+
 abbrev pub bound_among : Prop → Option Group → Option (List (Option ℕ)) → Option ℕ
 bound_among prop None list = None
 bound_among prop (Some group) None = None
-bound_among prop (Some group) (Some list) = option_and_then (λ bound. bound) (lookup (is_same prop) (zip (properties_of group.interesting) list))
+bound_among prop (Some group) (Some list) = bound_by group.interesting list prop
 
 abbrev pub bound_in : List Group → List (List (Option ℕ)) → Bound
 bound_in groups lists made = bound_among made.prop (slice_get groups made.group.0) (slice_get lists made.group.0)

@@ -4,3 +4,9 @@ pub mod Ways
 pub mod Shape
 -- bounds on what plans cost
 pub mod Bounds
+-- what moves cost, by the flow of each group
+pub mod Costing
+-- the cheapest way by bounds
+pub mod Offers
+-- how it is found, by the rules read backwards
+pub mod Search

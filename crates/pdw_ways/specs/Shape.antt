@@ -75,6 +75,12 @@ module _ (groups : List Group) (costs : Costs) where
     pub allowed : (shape_of plan).fault ≡ None
     pub makes : (shape_of plan).made ≡ made
 
+  -- there is a plan of this cost that makes these rows
+  pub record HasPlan (made : Made) (cost : ℕ) : Type 0 where
+    pub tree : Plan
+    pub is : IsPlan tree made
+    pub total : (shape_of tree).cost ≡ cost
+
 -- ---- plans for the query
 
 -- the last group is the root
