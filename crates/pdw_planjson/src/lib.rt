@@ -1,0 +1,15 @@
+//! Plan files: the texts of plans with their bounds and costs, written and read.
+#![tactic(auto)]
+
+mod bounds;
+mod file;
+mod keys;
+mod line;
+mod nodes;
+mod numerals;
+mod reading;
+mod stack;
+mod words;
+
+pub use file::{JsonFault, Place, PlanFile};
+pub use reading::from_text;
