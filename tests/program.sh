@@ -19,7 +19,7 @@ printf 'SELECT a FROM' >cut_off.sql
 : >empty.sql
 {
     cat s.sql
-    echo 'SET BUDGET 5; DROP TABLE t;'
+    echo 'SET BUDGET 5; EXPLAIN SELECT * FROM t;'
 } >not_built.sql
 sed 's/t.csv/none.csv/' s.sql >no_file.sql
 
@@ -87,7 +87,7 @@ expect 'a whole run' 0 "$(printf 'OK\nLOADED 2\na,b\nNULL,"y"\n4,"x"\nROWS 2')" 
 expect 'one node' 0 "$(printf 'OK\nLOADED 2\na,b\n4,"x"\nNULL,"y"\nROWS 2')" "$top/pdw" run 1 s.sql
 expect 'an empty script' 0 '' "$top/pdw" run 3 empty.sql
 expect refused 1 'REFUSED E6 SYNTAX AT 13' "$top/pdw" run 3 cut_off.sql
-expect 'not built' 1 "$(printf 'OK\nLOADED 2\na,b\n4,"x"\nNULL,"y"\nROWS 2\nREFUSED E19 STATEMENT 4 NOTBUILT')" "$top/pdw" run 1 not_built.sql
+expect 'not built' 1 "$(printf 'OK\nLOADED 2\na,b\n4,"x"\nNULL,"y"\nROWS 2\nOK\nREFUSED E19 STATEMENT 5 NOTBUILT')" "$top/pdw" run 1 not_built.sql
 expect 'a later file with a field too many' 1 "$(printf 'OK\nLOADED 3\na,b\n1,"x,y"\n2,""\n3,NULL\nROWS 3\nREFUSED E17 STATEMENT 4 FIELDCOUNT 3')" "$top/pdw" run 4 field_count.sql
 expect 'a dropped table' 1 "$(printf 'OK\nOK\nREFUSED E9 STATEMENT 3 UNKNOWNTABLE e')" "$top/pdw" run 4 dropped.sql
 expect 'no words' 2 '' "$top/pdw"

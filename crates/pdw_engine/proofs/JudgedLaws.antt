@@ -1,5 +1,5 @@
 -- What the judgement of a statement that is executed says of the tables.
-use Rattle.std.proofs.Common.{◌≡◌, ℕ, zero, suc, ◌<◌, ◌≤◌, ◌==◌, Bool, true, false, leb, inl, inr, List, [], ◌∷◌, ◌++◌, length, get_or, position, AllPairs, Option, Some, None, is_some, IsSome, Result, Ok, Err, refl, sym, ◌∙◌, ap, subst, arith, append_assoc, append-nil}
+use Rattle.std.proofs.Common.{◌≡◌, ℕ, ℤ, pos, negsuc, zero, suc, ◌<◌, ◌≤◌, ◌==◌, ◌&&◌, not, Bool, true, false, leb, unsigned_abs, codes, inl, inr, List, [], ◌∷◌, ◌++◌, length, get_or, position, AllPairs, Option, Some, None, is_some, IsSome, Result, Ok, Err, refl, sym, ◌∙◌, ap, subst, arith, append_assoc, append-nil}
 use Rattle.std.specs.Bool.{⊤}
 use Rattle.std.specs.List.{AllByRecursion, list_all, list_any}
 use Rattle.std.specs.Str.{bytes_eq}
@@ -9,6 +9,7 @@ use Rattle.std.proofs.lemmas.List.{length-append}
 use Rattle.std.proofs.lemmas.List.Quantifiers.{all_pairs_push, position-Some}
 use Rattle.std.proofs.lemmas.Option.{none-some}
 use Rattle.pdw_syntax.specs.declared.query.Select.{Select}
+use Rattle.pdw_syntax.specs.declared.statement.CostPart.{CostPart}
 use Rattle.pdw_syntax.specs.declared.statement.Statement.{Statement}
 use Rattle.pdw_syntax.specs.declared.statement.Statement.TheVariants as s
 use Rattle.pdw_base.specs.declared.value.Kind.{Kind}
@@ -23,11 +24,13 @@ use Rattle.pdw_catalog.specs.declared.table.Placing.TheVariants.{Hash}
 use Rattle.pdw_catalog.specs.declared.table.Table.{Table}
 use Rattle.pdw_catalog.specs.declared.table.TheConstants.{MOST_COLUMNS, MOST_TABLES}
 use Rattle.pdw_engine.specs.Prepared.{IsPrepared, is_built}
+use Rattle.pdw_engine.specs.Statistics.{AreNumbers, Numbers}
 use Rattle.pdw_walk.proofs.Outcomes.{done_value, in_turn, refused_not_done}
 use Rattle.pdw_walk.specs.Queries.{select}
-use Rattle.pdw_walk.specs.Statements.{answer_of, create, is_named, judgement, known, known_or_fault, new_column, place_of_column, place_or_fault, placing, statement, with_known}
+use Rattle.pdw_walk.specs.Statements.{answer_of, budget_setting, cost_name, cost_setting, create, hand, is_named, is_of_place, judgement, known, known_or_fault, lies_in, new_column, new_statistic, place_of_column, place_or_fault, placing, setting, statement, with_known}
 use Rattle.pdw_walk.specs.Walk.{Outcome, Step, Walk, and_then, beginning, done, over, pure, refuse_if, refused}
 use Rattle.pdw_walk.specs.declared.fault.JudgeFault.{JudgeFault}
+use Rattle.pdw_walk.specs.declared.fault.TheConstants.{MOST_BUDGET, MOST_COST, MOST_STATISTIC, MOST_WIDTH}
 use Rattle.pdw_form.specs.declared.judged.Judged.{Judged}
 use Rattle.pdw_form.specs.declared.judged.Judged.TheVariants as judged
 use Rattle.pdw_form.specs.declared.judged.JudgedSelect.{JudgedSelect}
@@ -114,6 +117,10 @@ abbrev pub IsReady : Tables → Statement → Judged → Type 0
 IsReady tables statement (judged.Create table) = statement_written statement ≡ true → (table_named table.name tables ≡ None) × IsTable table × (length tables < MOST_TABLES)
 IsReady tables statement (judged.Drop name) = IsSome (table_named name tables)
 IsReady tables statement (judged.Load name file) = IsSome (table_named name tables)
+IsReady tables statement (judged.Measure name) = IsSome (table_named name tables)
+IsReady tables statement (judged.Hand name rows cols) = IsSome (table_named name tables) × AreNumbers rows cols
+IsReady tables statement (judged.Budget amount) = (1 ≤ amount) × (amount ≤ 100000)
+IsReady tables statement (judged.Cost part amount) = (1 ≤ amount) × (amount ≤ 1000)
 IsReady tables statement (judged.Select form) = (select : Select) × (statement ≡ s.Select select)
 IsReady tables statement _ = ⊥
 
@@ -167,11 +174,84 @@ select_ready tables query w work w' e =
     let turn = in_turn (select tables query w) (λ form. pure (judged.Select form)) work w' e in
     subst (IsReady tables (s.Select query)) (done_value turn.ended) (query, refl)
 
+-- ---- numbers in their ranges
+
+abbrev Lies : ℕ → ℕ → ℕ → Type 0
+Lies least most n = (least ≤ n) × (n ≤ most)
+
+above : (a b : ℕ) → leb a b ≡ true → a ≤ b
+above a b e = elim (leb_tells a b) [ inl h ↦ h.1 | inr h ↦ absurd (false≢true (sym h.0 ∙ e)) ]
+
+truth : (b : Bool) → not b ≡ false → b ≡ true
+truth true e = refl
+truth false e = absurd (false≢true (sym e))
+
+in_range : (least most : ℕ) (amount : ℤ) → not (lies_in least most amount) ≡ false → Lies least most (unsigned_abs amount)
+in_range least most (pos n) e = let both = and_parts (leb least n) (leb n most) (truth (leb least n && leb n most) e) in (above least n both.0, above n most both.1)
+in_range least most (negsuc n) e = absurd (false≢true (sym e))
+
+set_in_range : (name : List ℕ) (least most : ℕ) (amount : ℤ) (w : Walk) (n : ℕ) (w' : Walk) → setting name least most amount w ≡ done n w' → Lies least most n
+unfolding setting
+set_in_range name least most amount w n w' e =
+    let passed = passed_test (not (lies_in least most amount)) _ _ n w w' e in
+    subst (Lies least most) (done_value passed.1) (in_range least most amount passed.0)
+
+abbrev IsNumbered : ℕ × ℕ × ℕ → Type 0
+IsNumbered of = Lies 1 1000000000000 of.1 × Lies 1 1000 of.2
+
+all_pushed : (before : Numbers) (of : ℕ × ℕ × ℕ) → AllByRecursion IsNumbered before → IsNumbered of → AllByRecursion IsNumbered (before ++ of ∷ [])
+all_pushed [] of all one = (one, tt)
+all_pushed (first ∷ before) of all one = (all.0, all_pushed before of all.1 one)
+
+one_number : (columns : List Column) (before : Numbers) (of : List ℕ × ℤ × ℤ) (w : Walk) (more : Numbers) (w' : Walk) → AllByRecursion IsNumbered before → new_statistic columns before of w ≡ done more w' → AllByRecursion IsNumbered more
+one_number columns before (name, distinct, width) w more w' all e =
+    let found = in_turn (place_of_column columns name w) _ more w' e in
+    let once = passed_test (list_any (is_of_place found.value) before) _ _ more found.middle w' found.ended in
+    let values = in_turn (setting (codes "distinct") 1 MOST_STATISTIC distinct found.middle) _ more w' once.1 in
+    let bytes = in_turn (setting (codes "width") 1 MOST_WIDTH width values.middle) _ more w' values.ended in
+    let valued = set_in_range (codes "distinct") 1 MOST_STATISTIC distinct found.middle values.value values.middle values.begun in
+    let wide = set_in_range (codes "width") 1 MOST_WIDTH width values.middle bytes.value bytes.middle bytes.begun in
+    subst (AllByRecursion IsNumbered) (done_value bytes.ended) (all_pushed before (found.value, values.value, bytes.value) all (valued, wide))
+
+all_numbers : (columns : List Column) (before : Numbers) (left : List (List ℕ × ℤ × ℤ)) (w : Walk) (found : Numbers) (w' : Walk) → AllByRecursion IsNumbered before → over (new_statistic columns) before left w ≡ done found w' → AllByRecursion IsNumbered found
+all_numbers columns before [] w found w' all e = subst (AllByRecursion IsNumbered) (done_value e) all
+all_numbers columns before (of ∷ left) w found w' all e =
+    let turn = in_turn (new_statistic columns before of w) (λ more. over (new_statistic columns) more left) found w' e in
+    all_numbers columns turn.value left turn.middle found w' (one_number columns before of w turn.value turn.middle all turn.begun) turn.ended
+
+hand_ready : (tables : Tables) (written : Statement) (name : List ℕ) (rows : ℤ) (cols : List (List ℕ × ℤ × ℤ)) (w : Walk) (work : Judged) (w' : Walk) → hand tables name rows cols w ≡ done work w' → IsReady tables written work
+unfolding hand known
+hand_ready tables written name rows cols w work w' e =
+    let table = in_turn (known_or_fault tables name (table_named name tables) w) _ work w' e in
+    let count = in_turn (setting (codes "rows") 0 MOST_STATISTIC rows table.middle) _ work w' table.ended in
+    let numbers = in_turn (over (new_statistic table.value.columns) [] cols count.middle) _ work w' count.ended in
+    let counted = set_in_range (codes "rows") 0 MOST_STATISTIC rows table.middle count.value count.middle count.begun in
+    subst (IsReady tables written) (done_value numbers.ended) (
+      found_there tables (table_named name tables) name w table.value table.middle table.begun,
+      (counted.1, all_numbers table.value.columns [] cols count.middle numbers.value numbers.middle tt numbers.begun),
+    )
+
+budget_ready : (tables : Tables) (written : Statement) (amount : ℤ) (w : Walk) (work : Judged) (w' : Walk) → budget_setting amount w ≡ done work w' → IsReady tables written work
+unfolding budget_setting
+budget_ready tables written amount w work w' e =
+    let turn = in_turn (setting (codes "budget") 1 MOST_BUDGET amount w) (λ n. pure (judged.Budget n)) work w' e in
+    subst (IsReady tables written) (done_value turn.ended) (set_in_range (codes "budget") 1 MOST_BUDGET amount w turn.value turn.middle turn.begun)
+
+cost_ready : (tables : Tables) (written : Statement) (part : CostPart) (amount : ℤ) (w : Walk) (work : Judged) (w' : Walk) → cost_setting part amount w ≡ done work w' → IsReady tables written work
+unfolding cost_setting
+cost_ready tables written part amount w work w' e =
+    let turn = in_turn (setting (cost_name part) 1 MOST_COST amount w) (λ n. pure (judged.Cost part n)) work w' e in
+    subst (IsReady tables written) (done_value turn.ended) (set_in_range (cost_name part) 1 MOST_COST amount w turn.value turn.middle turn.begun)
+
 done_ready : (tables : Tables) (written : Statement) (work : Judged) (w' : Walk) → is_built written ≡ true → statement tables written beginning ≡ done work w' → IsReady tables written work
 unfolding statement
 done_ready tables (s.CreateNamed name columns hash) work w' built e = create_ready tables name columns hash beginning work w' e
 done_ready tables (s.Drop name) work w' built e = known_ready tables (s.Drop name) name (judged.Drop name) beginning work w' (λ there. there) e
 done_ready tables (s.Load name file) work w' built e = known_ready tables (s.Load name file) name (judged.Load name file) beginning work w' (λ there. there) e
+done_ready tables (s.Measure name) work w' built e = known_ready tables (s.Measure name) name (judged.Measure name) beginning work w' (λ there. there) e
+done_ready tables (s.Hand name rows cols) work w' built e = hand_ready tables (s.Hand name rows cols) name rows cols beginning work w' e
+done_ready tables (s.Budget amount) work w' built e = budget_ready tables (s.Budget amount) amount beginning work w' e
+done_ready tables (s.Cost part amount) work w' built e = cost_ready tables (s.Cost part amount) part amount beginning work w' e
 done_ready tables (s.Select query) work w' built e = select_ready tables query beginning work w' e
 done_ready tables _ work w' built e = absurd (false≢true built)
 
@@ -186,6 +266,10 @@ abbrev pub CanDo : Tables → Judged → Type 0
 CanDo tables (judged.Create table) = (table_named table.name tables ≡ None) × IsTable table × (length tables < MOST_TABLES)
 CanDo tables (judged.Drop name) = IsSome (table_named name tables)
 CanDo tables (judged.Load name file) = IsSome (table_named name tables)
+CanDo tables (judged.Measure name) = IsSome (table_named name tables)
+CanDo tables (judged.Hand name rows cols) = IsSome (table_named name tables) × AreNumbers rows cols
+CanDo tables (judged.Budget amount) = (1 ≤ amount) × (amount ≤ 100000)
+CanDo tables (judged.Cost part amount) = (1 ≤ amount) × (amount ≤ 1000)
 CanDo tables (judged.Select form) = ⊤
 CanDo tables _ = ⊥
 
@@ -193,6 +277,10 @@ can_do : (tables : Tables) (statement : Statement) (work : Judged) → statement
 can_do tables statement (judged.Create table) written ready = ready written
 can_do tables statement (judged.Drop name) written ready = ready
 can_do tables statement (judged.Load name file) written ready = ready
+can_do tables statement (judged.Measure name) written ready = ready
+can_do tables statement (judged.Hand name rows cols) written ready = ready
+can_do tables statement (judged.Budget amount) written ready = ready
+can_do tables statement (judged.Cost part amount) written ready = ready
 can_do tables statement (judged.Select form) written ready = tt
 can_do tables statement _ written ready = absurd ready
 
@@ -201,9 +289,15 @@ CanDo-prepared tables work (statement, written, prepares) = can_do tables statem
 
 -- nothing else is prepared
 pub no_other : (tables : Tables) (work : Judged) → CanDo tables work → ((table : Table) → work ≡ judged.Create table → ⊥) → ((name : List ℕ) → work ≡ judged.Drop name → ⊥)
-    → ((name file : List ℕ) → work ≡ judged.Load name file → ⊥) → ((form : JudgedSelect) → work ≡ judged.Select form → ⊥) → ⊥
-no_other tables (judged.Create table) can creates drops loads selects = creates table refl
-no_other tables (judged.Drop name) can creates drops loads selects = drops name refl
-no_other tables (judged.Load name file) can creates drops loads selects = loads name file refl
-no_other tables (judged.Select form) can creates drops loads selects = selects form refl
-no_other tables _ can creates drops loads selects = can
+    → ((name file : List ℕ) → work ≡ judged.Load name file → ⊥) → ((name : List ℕ) → work ≡ judged.Measure name → ⊥)
+    → ((name : List ℕ) (rows : ℕ) (cols : Numbers) → work ≡ judged.Hand name rows cols → ⊥) → ((amount : ℕ) → work ≡ judged.Budget amount → ⊥)
+    → ((part : CostPart) (amount : ℕ) → work ≡ judged.Cost part amount → ⊥) → ((form : JudgedSelect) → work ≡ judged.Select form → ⊥) → ⊥
+no_other tables (judged.Create table) can creates drops loads measures hands budgets costs selects = creates table refl
+no_other tables (judged.Drop name) can creates drops loads measures hands budgets costs selects = drops name refl
+no_other tables (judged.Load name file) can creates drops loads measures hands budgets costs selects = loads name file refl
+no_other tables (judged.Measure name) can creates drops loads measures hands budgets costs selects = measures name refl
+no_other tables (judged.Hand name rows cols) can creates drops loads measures hands budgets costs selects = hands name rows cols refl
+no_other tables (judged.Budget amount) can creates drops loads measures hands budgets costs selects = budgets amount refl
+no_other tables (judged.Cost part amount) can creates drops loads measures hands budgets costs selects = costs part amount refl
+no_other tables (judged.Select form) can creates drops loads measures hands budgets costs selects = selects form refl
+no_other tables _ can creates drops loads measures hands budgets costs selects = can

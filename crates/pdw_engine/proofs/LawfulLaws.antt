@@ -18,6 +18,7 @@ use Rattle.pdw_engine.specs.Executes.{Gives, IsGiven, Selects, SelectsBy}
 use Rattle.pdw_engine.specs.Plain.{Plain, plain_of}
 use Rattle.pdw_engine.specs.Prepared.{Prepares}
 use Rattle.pdw_engine.specs.Selected.{SelectedBy}
+use Rattle.pdw_engine.specs.State.{State}
 use Rattle.pdw_engine.specs.declared.answer.Answer.{Answer}
 use Rattle.pdw_engine.specs.declared.answer.Answer.TheVariants.{Rows}
 use Rattle.pdw_engine.specs.declared.answer.Table1.{Table1}
@@ -52,10 +53,10 @@ HaveColumns-sound contents sound = stored_columns contents.nodes contents.tables
 -- ---- the rows of a SELECT
 
 -- by the law of the tree, and by those of the output names and of the order keys
-pub Selects-selected : (contents : Contents) → HaveColumns contents.tables → (select : Select) → query_written select.query ≡ true → (form : JudgedSelect) → judgement contents.tables (s.Select select) ≡ Ok (judged.Select form)
-    → (table : Table1) → SelectedBy (undivided contents) form table → Selects (plain_of contents) select (Rows table) (plain_of contents)
-Selects-selected contents have select written form is table selected =
-    let database = undivided contents in
+pub Selects-selected : (state : State) → HaveColumns state.contents.tables → (select : Select) → query_written select.query ≡ true → (form : JudgedSelect) → judgement state.contents.tables (s.Select select) ≡ Ok (judged.Select form)
+    → (table : Table1) → SelectedBy (undivided state.contents) form table → Selects (plain_of state) select (Rows table) (plain_of state)
+Selects-selected state have select written form is table selected =
+    let database = undivided state.contents in
     record {
       rows = table.rows;
       lawful = record {
@@ -63,7 +64,7 @@ Selects-selected contents have select written form is table selected =
         ordered = subst (λ keys. IsOrdered keys table.rows) (accepted_order database select form is) selected.ordered;
       };
       answered = λ i. Rows (record { names = (selected.names ∙ accepted_names database select form is) i; rows = table.rows });
-      same = SamePlain-refl (plain_of contents);
+      same = SamePlain-refl (plain_of state);
     }
 
 -- what is judged to be a SELECT is one

@@ -10,3 +10,5 @@ pub mod JudgedLaws
 pub mod LawfulLaws
 -- Statements leave the same plain states from the same plain states
 pub mod SamePlains
+-- What a session keeps stays in order
+pub mod StateLemmas

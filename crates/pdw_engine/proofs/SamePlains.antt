@@ -1,31 +1,44 @@
 -- Statements leave the same plain states from the same plain states.
-use Rattle.std.proofs.Common.{◌≡◌, ℕ, ◌<◌, ◌≤◌, ◌+◌, Bool, true, false, List, [], ◌∷◌, ◌++◌, length, refl, sym, ap, subst, ◌∙◌, Option, Some, None, Result, Ok, Err, if◌then◌else◌}
-use Rattle.std.specs.Bool.{⊤}
+use Rattle.std.proofs.Common.{◌≡◌, ℕ, Bool, true, false, List, [], ◌∷◌, ◌++◌, refl, sym, ap, subst, ◌∙◌, Option, Some, None, if◌then◌else◌}
+use Rattle.std.specs.Option.{option_map}
 use Rattle.std.specs.Str.{bytes_eq}
-use Rattle.pdw_base.proofs.SameBagLaws.{SameBag-append, SameBag-refl, SameBag-sym, SameBag-trans, SameBag-length}
+use Rattle.pdw_base.proofs.SameBagLaws.{SameBag-append, SameBag-refl, SameBag-sym, SameBag-trans}
 use Rattle.pdw_base.specs.SameBag.{SameBag}
-use Rattle.pdw_catalog.specs.Catalog.{Tables, table_named}
+use Rattle.pdw_catalog.specs.Catalog.{table_named}
 use Rattle.pdw_catalog.specs.Table.{Row}
 use Rattle.pdw_catalog.specs.declared.table.Table.{Table}
-use Rattle.pdw_engine.specs.Executes.{Does, LoadsContent, Selects, SelectsBy}
-use Rattle.pdw_engine.specs.Plain.{Plain, SamePlain, rows_with, with_rows, with_table, without_table}
+use Rattle.pdw_engine.specs.Executes.{Does, LoadsContent}
+use Rattle.pdw_engine.specs.Plain.{Plain, SamePlain, measured_in, rows_with, stats_with, with_rows, with_settings, with_table, without_table}
+use Rattle.pdw_engine.specs.Settings.{with_budget, with_constant}
+use Rattle.pdw_engine.specs.Statistics.{Numbers, handed}
+use Rattle.pdw_engine.specs.declared.settings.Settings.{Settings}
 use Rattle.pdw_engine.specs.declared.answer.Answer.{Answer}
 use Rattle.pdw_form.specs.declared.judged.Judged.{Judged}
 use Rattle.pdw_form.specs.declared.judged.Judged.TheVariants as judged
 use Rattle.pdw_load.specs.Records.{records_of, rows_of}
-use Rattle.pdw_syntax.specs.declared.query.Select.{Select}
+use Rattle.pdw_stats.proofs.MeasuredLemmas.{measured-SameBag}
+use Rattle.pdw_stats.specs.Measured.{measured}
+use Rattle.pdw_stats.specs.Stats.{usual_stats}
+use Rattle.pdw_stats.specs.declared.stats.Stats.{Stats}
 use Rattle.pdw_syntax.specs.declared.statement.Statement.{Statement}
 use Rattle.pdw_syntax.specs.declared.statement.Statement.TheVariants as s
-use Rattle.pdw_walk.specs.declared.fault.JudgeFault.{JudgeFault}
 
 pub SamePlain-sym : (some other : Plain) → SamePlain some other → SamePlain other some
-SamePlain-sym some other same = record { nodes = sym same.nodes; tables = sym same.tables; rows = λ name. SameBag-sym (same.rows name) }
+SamePlain-sym some other same = record {
+  nodes = sym same.nodes;
+  tables = sym same.tables;
+  rows = λ name. SameBag-sym (same.rows name);
+  stats = λ name. sym (same.stats name);
+  settings = sym same.settings;
+}
 
 pub SamePlain-trans : (one two three : Plain) → SamePlain one two → SamePlain two three → SamePlain one three
 SamePlain-trans one two three first second = record {
   nodes = second.nodes ∙ first.nodes;
   tables = second.tables ∙ first.tables;
   rows = λ name. SameBag-trans (second.rows name) (first.rows name);
+  stats = λ name. second.stats name ∙ first.stats name;
+  settings = second.settings ∙ first.settings;
 }
 
 -- ---- the same change of the same states
@@ -38,12 +51,22 @@ rows_with-same name one two some other changed same n = by (bytes_eq n name)
     by true = changed
     by false = same n
 
+stats_with-same : (name : List ℕ) (one two : Option Stats) (some other : List ℕ → Option Stats) → two ≡ one → ((n : List ℕ) → other n ≡ some n)
+    → (n : List ℕ) → stats_with name two other n ≡ stats_with name one some n
+stats_with-same name one two some other changed same n = by (bytes_eq name n)
+  where
+    by : (b : Bool) → (if b then two else other n) ≡ (if b then one else some n)
+    by true = changed
+    by false = same n
+
 module _ (some other : Plain) (same : SamePlain some other) where
   with_table-same : (table : Table) → SamePlain (with_table table some) (with_table table other)
   with_table-same table = record {
     nodes = same.nodes;
     tables = ap (λ tables. tables ++ (table.name, table) ∷ []) same.tables;
     rows = rows_with-same table.name [] [] some.rows other.rows (SameBag-refl []) same.rows;
+    stats = stats_with-same table.name (Some (usual_stats table)) (Some (usual_stats table)) some.stats other.stats refl same.stats;
+    settings = same.settings;
   }
 
   without_table-same : (name : List ℕ) → SamePlain (without_table name some) (without_table name other)
@@ -51,6 +74,8 @@ module _ (some other : Plain) (same : SamePlain some other) where
     nodes = same.nodes;
     tables = ap (λ tables. (without_table name (record some { tables = tables })).tables) same.tables;
     rows = rows_with-same name [] [] some.rows other.rows (SameBag-refl []) same.rows;
+    stats = stats_with-same name None None some.stats other.stats refl same.stats;
+    settings = same.settings;
   }
 
   with_rows-same : (name : List ℕ) (more : List Row) → SamePlain (with_rows name more some) (with_rows name more other)
@@ -58,7 +83,34 @@ module _ (some other : Plain) (same : SamePlain some other) where
     nodes = same.nodes;
     tables = same.tables;
     rows = rows_with-same name (some.rows name ++ more) (other.rows name ++ more) some.rows other.rows (SameBag-append (same.rows name) (SameBag-refl more)) same.rows;
+    stats = same.stats;
+    settings = same.settings;
   }
+
+  -- statistics that are the same change the same states
+  with_stats-same : (name : List ℕ) (one two : Option Stats) → two ≡ one
+      → SamePlain (record some { stats = stats_with name one some.stats }) (record other { stats = stats_with name two other.stats })
+  with_stats-same name one two changed = record {
+    nodes = same.nodes;
+    tables = same.tables;
+    rows = same.rows;
+    stats = stats_with-same name one two some.stats other.stats changed same.stats;
+    settings = same.settings;
+  }
+
+  -- equal bags are measured to be the same
+  same_measures : (name : List ℕ) → measured_in other name ≡ measured_in some name
+  same_measures name = ap (λ tables. measured_in (record other { tables = tables }) name) same.tables ∙ by (table_named name some.tables)
+    where
+      by : (found : Option Table) → option_map (λ (table : Table). measured table.columns (other.rows name)) found ≡ option_map (λ (table : Table). measured table.columns (some.rows name)) found
+      by None = refl
+      by (Some table) = ap Some (measured-SameBag table.columns (other.rows name) (some.rows name) (same.rows name))
+
+  same_hands : (name : List ℕ) (rows : ℕ) (numbers : Numbers) → option_map (handed rows numbers) (other.stats name) ≡ option_map (handed rows numbers) (some.stats name)
+  same_hands name rows numbers = ap (option_map (handed rows numbers)) (same.stats name)
+
+  with_settings-same : (one two : Settings) → two ≡ one → SamePlain (with_settings one some) (with_settings two other)
+  with_settings-same one two changed = record { nodes = same.nodes; tables = same.tables; rows = same.rows; stats = same.stats; settings = changed }
 
   -- between two changes there is what is done with the states
   between : (one two left right : Plain) → SamePlain one two → SamePlain one left → SamePlain two right → SamePlain left right
@@ -89,6 +141,13 @@ module _ (some other : Plain) (same : SamePlain some other) where
   does_same statement one two left right (judged.Drop name) file first second = between _ _ left right (without_table-same name) first.1 second.1
   does_same statement one two left right (judged.Load name wanted) None first second = absurd first
   does_same statement one two left right (judged.Load name wanted) (Some content) first second = loads_same statement one two left right name content first second
+  does_same statement one two left right (judged.Measure name) file first second = between _ _ left right (with_stats-same name (measured_in some name) (measured_in other name) (same_measures name)) first.1 second.1
+  does_same statement one two left right (judged.Hand name rows cols) file first second =
+      between _ _ left right (with_stats-same name (option_map (handed rows cols) (some.stats name)) (option_map (handed rows cols) (other.stats name)) (same_hands name rows cols)) first.1 second.1
+  does_same statement one two left right (judged.Budget amount) file first second =
+      between _ _ left right (with_settings-same (with_budget amount some.settings) (with_budget amount other.settings) (ap (with_budget amount) same.settings)) first.1 second.1
+  does_same statement one two left right (judged.Cost part amount) file first second =
+      between _ _ left right (with_settings-same (with_constant part amount some.settings) (with_constant part amount other.settings) (ap (with_constant part amount) same.settings)) first.1 second.1
   does_same (s.Select select) one two left right (judged.Select form) file first second = between some other left right same first.same second.same
   does_same _ one two left right (judged.Select form) file first second = absurd first
   does_same statement one two left right _ file first second = absurd first

@@ -6,7 +6,7 @@ use Rattle.pdw_syntax.specs.declared.statement.Statement.TheVariants as s
 use Rattle.pdw_catalog.specs.Catalog.{table_named}
 use Rattle.pdw_catalog.specs.Table.{Row, most_rows}
 use Rattle.pdw_catalog.specs.declared.table.Table.{Table}
-use Rattle.pdw_engine.specs.Plain.{Plain, SamePlain, database_of, with_rows, with_table, without_table}
+use Rattle.pdw_engine.specs.Plain.{Plain, SamePlain, budget_set, constant_set, database_of, with_handed, with_measured, with_rows, with_table, without_table}
 use Rattle.pdw_engine.specs.Prepared.{Prepares, wanted}
 use Rattle.pdw_engine.specs.declared.answer.Answer.{Answer}
 use Rattle.pdw_engine.specs.declared.answer.Answer.TheVariants.{Done, Loaded, Rows}
@@ -62,6 +62,10 @@ abbrev pub Does : Plain → Statement → Judged → Option (List ℕ) → Answe
 Does old statement (judged.Create table) file answer new = (answer ≡ Done) × SamePlain (with_table table old) new
 Does old statement (judged.Drop name) file answer new = (answer ≡ Done) × SamePlain (without_table name old) new
 Does old statement (judged.Load name wanted) file answer new = LoadsGiven old name file answer new
+Does old statement (judged.Measure name) file answer new = (answer ≡ Done) × SamePlain (with_measured name old) new
+Does old statement (judged.Hand name rows cols) file answer new = (answer ≡ Done) × SamePlain (with_handed name rows cols old) new
+Does old statement (judged.Budget amount) file answer new = (answer ≡ Done) × SamePlain (budget_set amount old) new
+Does old statement (judged.Cost part amount) file answer new = (answer ≡ Done) × SamePlain (constant_set part amount old) new
 Does old statement (judged.Select form) file answer new = SelectsBy old statement answer new
 Does old statement _ file answer new = ⊥
 

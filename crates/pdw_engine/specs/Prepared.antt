@@ -18,6 +18,10 @@ abbrev pub is_built : Statement → Bool
 is_built (s.CreateNamed table columns hash) = true
 is_built (s.Drop name) = true
 is_built (s.Load table file) = true
+is_built (s.Measure table) = true
+is_built (s.Hand table rows cols) = true
+is_built (s.Budget amount) = true
+is_built (s.Cost part amount) = true
 is_built (s.Select select) = true
 is_built _ = false
 

@@ -7,8 +7,11 @@ mod prepared;
 mod refusal;
 mod select;
 mod session;
+mod settings;
+mod statistics;
 
 pub use answer::{Answer, Table1};
 pub use prepared::{Prepared, Want};
 pub use refusal::{Refusal, Stop};
 pub use session::Session;
+pub use settings::{Settings, USUAL_BUDGET};

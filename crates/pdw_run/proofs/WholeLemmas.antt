@@ -11,7 +11,7 @@ use Rattle.pdw_catalog.specs.declared.table.Table.{Table}
 use Rattle.pdw_engine.proofs.JudgedLaws.{IsReady, IsReady-judged}
 use Rattle.pdw_engine.proofs.PlainLemmas.{SamePlain-refl}
 use Rattle.pdw_engine.specs.Executes.{Does, IsGiven, Selects, SelectsBy}
-use Rattle.pdw_engine.specs.Plain.{Plain, database_of, start, with_rows, with_table, without_table}
+use Rattle.pdw_engine.specs.Plain.{Plain, budget_set, constant_set, database_of, start, with_handed, with_measured, with_rows, with_table, without_table}
 use Rattle.pdw_engine.specs.Prepared.{Prepares, is_built, wanted}
 use Rattle.pdw_engine.specs.declared.answer.Answer.{Answer}
 use Rattle.pdw_engine.specs.declared.answer.Answer.TheVariants.{Done, Loaded, Rows}
@@ -99,6 +99,10 @@ module _ (held : Held) (k : ℕ) (old : Plain) (statement : Statement) where
       let table = table_there (table_named name old.tables) ready in
       let content = some_content (held file) in
       loads name file content.0 prepares content.1 table.0 table.1
+  works (judged.Measure name) prepares ready = does (judged.Measure name) prepares None Done (with_measured name old) tt tt (refl, SamePlain-refl _)
+  works (judged.Hand name rows cols) prepares ready = does (judged.Hand name rows cols) prepares None Done (with_handed name rows cols old) tt tt (refl, SamePlain-refl _)
+  works (judged.Budget amount) prepares ready = does (judged.Budget amount) prepares None Done (budget_set amount old) tt tt (refl, SamePlain-refl _)
+  works (judged.Cost part amount) prepares ready = does (judged.Cost part amount) prepares None Done (constant_set part amount old) tt tt (refl, SamePlain-refl _)
   works (judged.Select form) prepares ready = selects form prepares ready.0 ready.1
   works _ prepares ready = absurd ready
 

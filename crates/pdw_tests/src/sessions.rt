@@ -29,7 +29,7 @@ fn a_table_keeps_its_rows_where_a_file_is_refused(rt: HostRuntime) -> Result<(),
 
 fn prepared(alloc: Global, session: &Session, statement: &Statement) -> Result<Prepared, Fail>
     requires { statement_written statement.now ≡ true }
-    ensures { IfOk result (Prepares session.now.tables statement.now) }
+    ensures { IfOk result (Prepares session.now.contents.tables statement.now) }
 {
     match session.prepare(alloc, statement) {
         Ok(prepared) => Ok(prepared),

@@ -17,14 +17,14 @@ use Rattle.pdw_run.proofs.perform.execute.Goals as goal
 pub returns-in_err-file-clause-stop : goal.returns-in_err-file-clause-stop
 returns-in_err-file-clause-stop g c =
     let held = g.F.Files.bytes c.args.files.now in
-    let prepares = passed_on c.prepare.result c.map_err.result c.in_ok-prepared.prepared (Prepares c.args.session.now.tables c.args.statement.now) (λ (e : EngineStop) (d : Stop). d ≡ stop_of e) c.in_ok-prepared.was c.map_err.ensures.cases c.prepare.ensures.prepared in
+    let prepares = passed_on c.prepare.result c.map_err.result c.in_ok-prepared.prepared (Prepares c.args.session.now.contents.tables c.args.statement.now) (λ (e : EngineStop) (d : Stop). d ≡ stop_of e) c.in_ok-prepared.was c.map_err.ensures.cases c.prepare.ensures.prepared in
     let stops = Stops-file held (plain_of c.args.session.now) c.args.statement.now c.in_ok-prepared.prepared prepares (g.F.Files.faults c.args.files.now) (g.F.Files.faults c.wanted_file.new.files) c.in_err-file.field-0.0 c.in_err-file.ensures.stop in
     search (rules, stops)
 
 pub returns-in_err-answer-clause-stop : goal.returns-in_err-answer-clause-stop
 returns-in_err-answer-clause-stop g c =
     let held = g.F.Files.bytes c.args.files.now in
-    let prepares : Prepares c.args.session.now.tables c.args.statement.now c.in_ok-prepared.prepared = search rules in
+    let prepares : Prepares c.args.session.now.contents.tables c.args.statement.now c.in_ok-prepared.prepared = search rules in
     let same : option_copied c.map-content.result ≡ option_map (λ bytes. bytes.items) c.in_ok-file.file = search rules in
     let given = subst (IsGiven c.in_ok-prepared.prepared) (sym same) c.in_ok-file.ensures.given in
     let told = subst (IsTold held (wanted c.in_ok-prepared.prepared)) (sym same) c.in_ok-file.ensures.told in
@@ -41,11 +41,11 @@ pub returns-clause-text : goal.returns-clause-text
 returns-clause-text g c =
     let held = g.F.Files.bytes c.args.files.now in
     let old = plain_of c.args.session.now in
-    let prepares : Prepares c.args.session.now.tables c.args.statement.now c.in_ok-prepared.prepared = search rules in
+    let prepares : Prepares c.args.session.now.contents.tables c.args.statement.now c.in_ok-prepared.prepared = search rules in
     let same : option_copied c.map-content.result ≡ option_map (λ bytes. bytes.items) c.in_ok-file.file = search rules in
     let told = subst (IsTold held (wanted c.in_ok-prepared.prepared)) (sym same) c.in_ok-file.ensures.told in
     let answers = passed_on c.execute.result c.map_err-2.result c.in_ok-answer.answer
-    (λ (answer : Answer). (statement : Statement) → statement_written statement ≡ true → Prepares c.args.session.now.tables statement c.in_ok-prepared.prepared → Answered old statement (option_copied c.map-content.result) answer (plain_of c.execute.new.self))
+    (λ (answer : Answer). (statement : Statement) → statement_written statement ≡ true → Prepares c.args.session.now.contents.tables statement c.in_ok-prepared.prepared → Answered old statement (option_copied c.map-content.result) answer (plain_of c.execute.new.self))
     (λ (e : EngineStop) (d : Stop). d ≡ stop_of e) c.in_ok-answer.was c.map_err-2.ensures.cases c.execute.ensures.answer in
     let answered = answers c.args.statement.now c.requires prepares in
     subst (λ text. Gives held old c.args.statement.now (prints text) (plain_of c.execute.new.self)) (sym c.in_ok-answer-2.ensures)

@@ -1,10 +1,10 @@
 use Rattle.std.proofs.Common.{◌≡◌, ◌∙◌, ap, subst, length, arith}
 use Rattle.std.proofs.lemmas.List.{length-map}
-use Rattle.pdw_catalog.specs.Appliance.{Contents}
 use Rattle.pdw_load.specs.Records.{records_of}
 use Rattle.pdw_engine.proofs.PlainLemmas.{SamePlain-gained}
 use Rattle.pdw_engine.specs.Executes.{LoadsContent}
 use Rattle.pdw_engine.specs.Plain.{SamePlain, plain_of, with_rows}
+use Rattle.pdw_engine.specs.State.{State}
 use Rattle.pdw_engine.specs.declared.answer.Answer.TheVariants.{Loaded}
 use Rattle.pdw_engine.proofs.session.Session.load.Goals as goal
 
@@ -22,11 +22,15 @@ returns-clause-loaded c =
     let most = c.most_rows-most.ensures in
     let had = c.row_count.ensures in
     let limit = c.table-table.ensures.limit in
-    subst (λ (before : Contents). LoadsContent (plain_of before) name content (Loaded c.len-count.result) (plain_of new)) c.self.view_is (record {
+    let book = c.self.inside.book in
+    let settings = c.self.inside.settings in
+    let before : State = record { contents = old; book = book; settings = settings } in
+    let after : State = record { contents = new; book = book; settings = settings } in
+    subst (λ (state : State). LoadsContent (plain_of state) name content (Loaded c.len-count.result) (plain_of after)) c.self.view_is (record {
       table = c.table-table.result.now;
       there = c.table-table.ensures.named;
       sound = c.in-Ok.ensures.faultless;
       room = omega arith;
       answered = ap Loaded (len ∙ count);
-      gained = subst (λ more. SamePlain (with_rows name more (plain_of old)) (plain_of new)) read (SamePlain-gained old new name rows.items c.in_ok-append_rows.ensures.ok);
+      gained = subst (λ more. SamePlain (with_rows name more (plain_of before)) (plain_of after)) read (SamePlain-gained old new book settings name rows.items c.in_ok-append_rows.ensures.ok);
     })
