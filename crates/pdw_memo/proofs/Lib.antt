@@ -15,6 +15,7 @@ pub mod MemoSides
 pub mod MemoDiffers
 pub mod MemoMeans
 pub mod MemoColumns
+pub mod RisingLaws
 pub mod MemoRows
 pub mod Weights
 pub mod MemoWeights

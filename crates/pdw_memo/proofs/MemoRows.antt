@@ -1,5 +1,5 @@
--- The rows of a bag that a group of a memo admits lie within the group's schema.
-use Rattle.std.proofs.Common.{◌≡◌, ℕ, suc, ◌+◌, ◌^◌, ◌==◌, ◌||◌, Bool, true, false, true≢false, List, [], ◌∷◌, ◌++◌, map, filter, length, Some, if◌then◌else◌, refl, sym, ap, subst, ◌∙◌, arith, append-nil}
+-- A group of a memo has the schema of what it means, and the rows of a bag that it admits lie within that.
+use Rattle.std.proofs.Common.{◌≡◌, ℕ, suc, ◌+◌, ◌-◌, ◌^◌, ◌==◌, ◌||◌, Bool, true, false, true≢false, List, [], ◌∷◌, ◌++◌, map, filter, length, Some, if◌then◌else◌, refl, sym, ap, subst, ◌∙◌, arith, append-nil}
 use Rattle.std.specs.List.{AllByRecursion, flat_map, slice_get}
 use Rattle.std.specs.Option.{option_map}
 use Rattle.std.proofs.lemmas.List.Folds.{flat_map-map}
@@ -28,7 +28,7 @@ use Rattle.pdw_expr.specs.Rows.{argument, first_row, key_cells, key_of}
 use Rattle.pdw_expr.specs.declared.agg.Agg.{Agg}
 use Rattle.pdw_expr.specs.declared.cond.Cond.{Cond}
 use Rattle.pdw_groups.proofs.OrderLaws.{found}
-use Rattle.pdw_groups.proofs.SchemaLaws.{has_number-all, has_number-rising}
+use Rattle.pdw_groups.proofs.SchemaLaws.{has_number-rising}
 use Rattle.pdw_groups.specs.Block.{BlockLeaf, block_groups, inside_leaf, second_group, second_groups, seconds, set_group}
 use Rattle.pdw_groups.specs.Columns.{hash_in, partial_column, replicated_in, useful_columns}
 use Rattle.pdw_groups.specs.Group.{GroupOf, kept_group}
@@ -41,6 +41,8 @@ use Rattle.pdw_groups.specs.declared.group.Group.{Group}
 use Rattle.pdw_groups.specs.declared.op.Op.{Op}
 use Rattle.pdw_groups.specs.declared.op.Op.TheVariants as op
 use Rattle.pdw_memo.proofs.EachGroup.{all-at, some-same}
+use Rattle.pdw_memo.proofs.MemoMeans.{memo-root}
+use Rattle.pdw_memo.proofs.RisingLaws.{rising-all}
 use Rattle.pdw_memo.specs.Laws.{meanings_in}
 use Rattle.pdw_memo.specs.Memo.{IsMemo}
 use Rattle.pdw_partial.specs.Partial.{partial_cells, partial_row, partial_rows}
@@ -132,9 +134,12 @@ module _ (tables : Tables) where
       let columns = rising (columns_of tables t) in
       within-same (map (key_column columns) keys ++ map (partial_column columns) aggs) bag (flat_map (partial_rows keys aggs) partial.parts) partial.rows (partials-within columns keys aggs partial.parts)
 
-  -- a group's schema has the columns of what the group means
+  -- a group's schema is that of what the group means
   abbrev pub Names : GroupOf → Type 0
-  Names group = (c : ColId) → has_number c group.schema ≡ has_number c (columns_by group.means)
+  Names group = group.schema ≡ rising (columns_by group.means)
+
+  pub names-number : (group : GroupOf) → Names group → (c : ColId) → has_number c group.schema ≡ has_number c (columns_by group.means)
+  names-number group names c = ap (has_number c) names ∙ has_number-rising c (columns_by group.means)
 
   abbrev Named : Node → Type 0
   Named node = (before : Before) → AllByRecursion Names (node.groups before)
@@ -154,11 +159,7 @@ module _ (tables : Tables) where
 
   second-named : (block place : ℕ) (leaf : BlockLeaf) (inside : List Cond) → IsRisen leaf → AllByRecursion Names (second_group block place leaf inside)
   second-named block place leaf [] risen = tt
-  second-named block place leaf (first ∷ rest) risen = (
-    λ c. ap (has_number c) risen ∙ has_number-rising c (columns_of tables leaf.tree)
-        ∙ ap (has_number c) (sym (columns-block tables (leaf.tree ∷ []) (first ∷ rest) ∙ append-nil (columns_of tables leaf.tree))),
-    tt,
-  )
+  second-named block place leaf (first ∷ rest) risen = (risen ∙ ap rising (sym (columns-block tables (leaf.tree ∷ []) (first ∷ rest) ∙ append-nil (columns_of tables leaf.tree))), tt)
 
   seconds-named : (block : ℕ) (conds : List Cond) (place : ℕ) (leaves : List BlockLeaf) → AllByRecursion IsRisen leaves → AllByRecursion Names (second_groups block conds place leaves)
   seconds-named block conds place [] all = tt
@@ -170,15 +171,22 @@ module _ (tables : Tables) where
   risen-columns [] all = refl
   risen-columns (leaf ∷ leaves) all = (λ i. all.0 i ∷ risen-columns leaves all.1 i)
 
-  -- the columns of a set of leaves
+  -- the schema of a set of leaves, and its columns
+  set-schema : (set : LeafSet) (leaves : List BlockLeaf) (conds : List Cond) → AllByRecursion IsRisen leaves
+      → rising (columns_in set (map (λ (leaf : BlockLeaf). leaf.columns) leaves)) ≡ rising (columns_of tables (tree.Block (chosen set (map (λ (leaf : BlockLeaf). leaf.tree) leaves)) conds))
+  set-schema set leaves conds all =
+      let trees = map (λ (leaf : BlockLeaf). leaf.tree) leaves in
+      ap (λ some. rising (flat_map (λ columns. columns) some))
+      (ap (chosen set) (risen-columns leaves all) ∙ chosen-map rising set (map (columns_of tables) trees) ∙ ap (map rising) (chosen-map (columns_of tables) set trees))
+      ∙ rising-all (map (columns_of tables) (chosen set trees))
+      ∙ ap rising (flat_map-map (λ columns. columns) (columns_of tables) (chosen set trees) ∙ sym (columns-block tables (chosen set trees) conds))
+
   pub set-columns : (set : LeafSet) (leaves : List BlockLeaf) (conds : List Cond) → AllByRecursion IsRisen leaves → (c : ColId)
       → has_number c (columns_in set (map (λ (leaf : BlockLeaf). leaf.columns) leaves)) ≡ has_number c (columns_of tables (tree.Block (chosen set (map (λ (leaf : BlockLeaf). leaf.tree) leaves)) conds))
   set-columns set leaves conds all c =
-      let trees = map (λ (leaf : BlockLeaf). leaf.tree) leaves in
-      ap (λ some. has_number c (flat_map (λ columns. columns) some))
-      (ap (chosen set) (risen-columns leaves all) ∙ chosen-map rising set (map (columns_of tables) trees) ∙ ap (map rising) (chosen-map (columns_of tables) set trees))
-      ∙ has_number-all c (map (columns_of tables) (chosen set trees))
-      ∙ ap (has_number c) (flat_map-map (λ columns. columns) (columns_of tables) (chosen set trees) ∙ sym (columns-block tables (chosen set trees) conds))
+      sym (has_number-rising c (columns_in set (map (λ (leaf : BlockLeaf). leaf.columns) leaves)))
+      ∙ ap (has_number c) (set-schema set leaves conds all)
+      ∙ has_number-rising c (columns_of tables (tree.Block (chosen set (map (λ (leaf : BlockLeaf). leaf.tree) leaves)) conds))
 
   module _ (block : ℕ) (level : Level) (conds : List Cond) (leaves : List BlockLeaf) (first : ℕ) (all : AllByRecursion IsRisen leaves) where
     abbrev leaf_columns : List Columns
@@ -186,10 +194,7 @@ module _ (tables : Tables) where
 
     sets-named : (masks : List ℕ) → AllByRecursion Names (map (set_group block level conds leaves first) masks)
     sets-named [] = tt
-    sets-named (mask ∷ masks) = (
-      λ c. has_number-rising c (columns_in (set_of mask) leaf_columns) ∙ set-columns (set_of mask) leaves (inside (set_of mask) leaf_columns conds) all c,
-      sets-named masks,
-    )
+    sets-named (mask ∷ masks) = (set-schema (set_of mask) leaves (inside (set_of mask) leaf_columns conds) all, sets-named masks)
 
     block-named : AllByRecursion Names (block_groups block level conds leaves first)
     block-named =
@@ -202,13 +207,11 @@ module _ (tables : Tables) where
     operator-named : (t : Tree) (operator : Op) (nodes : List Node) → AllByRecursion Named nodes → Named (operator_node tables levels t operator nodes)
     operator-named t operator nodes all before =
         all-append Names (groups_in_turn nodes before) (whole_group tables levels (passed_all before nodes).operators t (record { operator = operator; children = own_in_turn nodes before } ∷ []) ∷ []) (turn-named nodes all before)
-        (λ c. has_number-rising c (columns_of tables t), tt)
+        (refl, tt)
 
     grouping-named : (keys : List ColId) (aggs : List Agg) (child : Node) → Named child → Named (grouping_node tables levels keys aggs child)
     grouping-named keys aggs child holds before =
-        let columns = rising (columns_of tables child.tree) in
-        all-append Names (child.groups before) (grouping_groups tables levels keys aggs child before) (holds before)
-        (λ c. has_number-rising c (map (key_column columns) keys ++ map (partial_column columns) aggs), (λ c. has_number-rising c (columns_of tables (tree.GroupBy keys aggs child.tree)), tt))
+        all-append Names (child.groups before) (grouping_groups tables levels keys aggs child before) (holds before) (refl, (refl, tt))
 
     pub leaves-risen : (nodes : List Node) (before : Before) → AllByRecursion IsRisen (block_leaves tables levels nodes before)
     leaves-risen [] before = tt
@@ -258,5 +261,19 @@ memo-within contents memo database number group there bag admits =
     let means : slice_get (meanings_in contents memo) number ≡ Some own.0.means = slice_get-map (λ (g : GroupOf). g.means) groups number ∙ ap (option_map (λ (g : GroupOf). g.means)) own.1 in
     let names = all-at (Names memo.tables) groups (tree-named memo.tables memo.levels memo.tree at_first) number own.0 own.1 in
     subst (λ (g : Group). AllWithin g.schema bag) same
-    (named-within memo.tables own.0.schema (columns_by memo.tables own.0.means) names bag
+    (named-within memo.tables own.0.schema (columns_by memo.tables own.0.means) (names-number memo.tables own.0 names) bag
     (admits-within memo.tables database own.0.means bag (subst (λ m. AdmitsIf database m bag) means admits)))
+
+-- the last group, which means the tree, has its schema
+pub memo-root_schema : (contents : Contents) (memo : IsMemo contents) → option_map (λ (group : Group). group.schema) (slice_get contents.groups (length contents.groups - 1)) ≡ Some (rising (columns_of memo.tables memo.tree))
+memo-root_schema contents memo =
+    let groups = groups_of memo.tables memo.levels memo.tree in
+    let kept = kept_group (useful_columns memo.tables memo.tree) in
+    let last = length contents.groups - 1 in
+    let at : option_map (λ (g : GroupOf). g.means) (slice_get groups last) ≡ Some (exactly memo.tree) = sym (slice_get-map (λ (g : GroupOf). g.means) groups last) ∙ memo-root contents memo in
+    let own = found (λ (g : GroupOf). g.means) (slice_get groups last) (exactly memo.tree) at in
+    let means : own.0.means ≡ exactly memo.tree = some-same own.0.means (exactly memo.tree) (sym (ap (option_map (λ (g : GroupOf). g.means)) own.1) ∙ at) in
+    let names = all-at (Names memo.tables) groups (tree-named memo.tables memo.levels memo.tree at_first) last own.0 own.1 in
+    ap (λ (c : Contents). option_map (λ (group : Group). group.schema) (slice_get c.groups last)) memo.is
+    ∙ ap (option_map (λ (group : Group). group.schema)) (slice_get-map kept groups last ∙ ap (option_map kept) own.1)
+    ∙ ap Some (names ∙ ap (λ means. rising (columns_by memo.tables means)) means)

@@ -36,7 +36,7 @@ use Rattle.pdw_groups.specs.declared.group.Group.{Group}
 use Rattle.pdw_groups.specs.declared.op.Op.{Op}
 use Rattle.pdw_groups.specs.declared.op.Op.TheVariants as op
 use Rattle.pdw_memo.proofs.EachGroup.{OfOwnGroups, all-at, each-join, each-of_block, each-of_tree, kept-each, some-same}
-use Rattle.pdw_memo.proofs.MemoRows.{IsRisen, Names, columns_by, leaves-risen, set-columns, tree-named}
+use Rattle.pdw_memo.proofs.MemoRows.{IsRisen, Names, columns_by, leaves-risen, names-number, set-columns, tree-named}
 use Rattle.pdw_memo.specs.Laws.{AreTwoApart, HasApartSides, OfEachExpr}
 use Rattle.pdw_memo.specs.Memo.{IsMemo}
 use Rattle.pdw_parts.proofs.ChosenLaws.{Apart, are_apart-from, disjoint-apart}
@@ -173,7 +173,7 @@ module _ (tables : Tables) where
         let same : kept_group useful at.0 ≡ group =
         some-same (kept_group useful at.0) group (sym (ap (option_map (kept_group useful)) at.1) ∙ sym (slice_get-map (kept_group useful) groups child.number) ∙ there) in
         ap (λ (g : Group). has_number c g.schema) (sym same)
-        ∙ all-at (Names tables) groups named child.number at.0 at.1 c
+        ∙ names-number tables at.0 (all-at (Names tables) groups named child.number at.0 at.1) c
         ∙ ap (λ m. has_number c (columns_by tables m)) means
 
     two-apart : (children : List Child) → LieTwoApart children → AllByRecursion (IsAmong groups) children → AreTwoApart kept (map id_of children)

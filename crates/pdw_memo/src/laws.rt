@@ -1,7 +1,10 @@
 //! The laws of every memo.
 
 ghost use Rattle.std.specs.List.{AllByRecursion, slice_get};
+ghost use Rattle.std.specs.Option.{option_map};
 ghost use Rattle.std.specs.Prelude.{◌≡◌, ◌-◌, ℕ, List, Some, length};
+ghost use Rattle.pdw_algebra.specs.Schema.{rising};
+ghost use Rattle.pdw_algebra.specs.Shape.{columns_of};
 ghost use Rattle.pdw_algebra.specs.Within.{AllWithin};
 ghost use Rattle.pdw_base.specs.Schema.{Env};
 ghost use Rattle.pdw_catalog.specs.Database.{Database};
@@ -25,6 +28,11 @@ pub fn a_memo_names_its_columns()
     ensures rows { (contents : Contents) (memo : IsMemo contents) (database : Database) (number : ℕ) (group : GroupIn) → slice_get contents.groups number ≡ Some group → (bag : List Env) → AdmitsAt database (meanings_in contents memo) number bag → AllWithin group.schema bag }
     ensures interesting { (contents : Contents) → IsMemo contents → AllByRecursion HasItsColumns contents.groups }
     ensures keys { (contents : Contents) → IsMemo contents → AllByRecursion (λ group. AllByRecursion (λ expr. MakesNoKey expr.op) group.exprs) contents.groups }
+{}
+
+/// The last group of a memo has the schema of the tree: its columns with their kinds, by rising numbers.
+pub fn a_memos_root_has_the_trees_columns()
+    ensures { (contents : Contents) (memo : IsMemo contents) → option_map (λ (group : GroupIn). group.schema) (slice_get contents.groups (length contents.groups - 1)) ≡ Some (rising (columns_of memo.tables memo.tree)) }
 {}
 
 /// A join of a memo has two sides, which are groups whose schemas have no column number in common.
