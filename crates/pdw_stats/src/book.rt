@@ -1,7 +1,7 @@
 ghost use Rattle.std.specs.Prelude.{◌≡◌, [], None, Some, IfSome, OnOk, OnErr};
 ghost use Rattle.std.specs.Option.{option_copied};
 ghost use Rattle.pdw_stats.specs.Stats.{IsInRange};
-ghost use Rattle.pdw_stats.specs.Book.{Changes, stats_of, with_stats, without_stats};
+ghost use Rattle.pdw_stats.specs.Book.{AreInRange, Changes, stats_of, with_stats, without_stats};
 
 use crate::stats::Stats;
 use indexmap::IndexMap;
@@ -53,6 +53,13 @@ impl StatsBook {
         ensures range { IfSome result (λ stats. IsInRange stats.now) }
     {
         self.stats.get(table)
+    }
+
+    /// The law of books: all their numbers are in the ranges of the limits.
+    pub fn keeps_ranges(&self)
+        ensures { AreInRange self.now }
+    {
+        let _ = &self.stats;
     }
 
     /// Removes the statistics of a table, if there are any. It takes no memory.
