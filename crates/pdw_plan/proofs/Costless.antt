@@ -161,7 +161,7 @@ walked-some groups p w ok =
     let some = some-nodes p in
     omega (arith, next, nodes, some)
 
--- ---- with the groups as they are read
+-- ---- as the code tests it
 
 root-true : (groups : List Group) (number : GroupId) → number.0 + 1 ≡ length groups → is_root groups number ≡ true
 root-true groups number is = let same : suc number.0 ≡ length groups = omega (arith, is) in eq-eqb (suc number.0) (length groups) same
@@ -169,20 +169,10 @@ root-true groups number is = let same : suc number.0 ≡ length groups = omega (
 root-false : (groups : List Group) (number : GroupId) → number.0 + 1 ≢ length groups → is_root groups number ≡ false
 root-false groups number other = ne_eqb (suc number.0) (length groups) (λ same. other (let is : number.0 + 1 ≡ length groups = omega (arith, same) in is))
 
-module _ (groups read : List Group) (same : read ≡ groups) (p : Plan) where
-  pub read-fault : (costs : Costs) (e : PlanFault) → Err e ≡ walked 0 (shape_of read no_costs p) → query_fault groups (shape_of groups costs p) ≡ Some e.node
-  read-fault costs e is = query-fault groups costs p e (is ∙ ap (λ groups. walked 0 (shape_of groups no_costs p)) same)
+module _ (groups : List Group) (p : Plan) (w : Walked) (ok : Ok w ≡ walked 0 (shape_of groups no_costs p)) where
+  pub walked-root : w.made.group.0 + 1 ≡ length groups → (costs : Costs)
+      → (query_fault groups (shape_of groups costs p) ≡ None) × ((shape_of groups costs p).made ≡ record { group = w.made.group; prop = w.made.prop })
+  walked-root is costs = (query-root groups costs p w ok (root-true groups w.made.group is), query-made groups costs p w ok)
 
-  module _ (w : Walked) (ok : Ok w ≡ walked 0 (shape_of read no_costs p)) where
-    read-ok : Ok w ≡ walked 0 (shape_of groups no_costs p)
-    read-ok = ok ∙ ap (λ groups. walked 0 (shape_of groups no_costs p)) same
-
-    pub read-root : w.made.group.0 + 1 ≡ length read → (costs : Costs)
-        → (query_fault groups (shape_of groups costs p) ≡ None) × ((shape_of groups costs p).made ≡ record { group = w.made.group; prop = w.made.prop })
-    read-root is costs = (query-root groups costs p w read-ok (root-true groups w.made.group (is ∙ ap (λ groups. length groups) same)), query-made groups costs p w read-ok)
-
-    pub read-other : w.made.group.0 + 1 ≢ length read → (costs : Costs) → query_fault groups (shape_of groups costs p) ≡ Some (w.next - 1)
-    read-other is costs = query-other groups costs p w read-ok (root-false groups w.made.group (λ at. is (at ∙ ap (λ groups. length groups) (sym same))))
-
-    pub read-some : 1 ≤ w.next
-    read-some = walked-some groups p w read-ok
+  pub walked-other : w.made.group.0 + 1 ≢ length groups → (costs : Costs) → query_fault groups (shape_of groups costs p) ≡ Some (w.next - 1)
+  walked-other is costs = query-other groups costs p w ok (root-false groups w.made.group is)

@@ -1,11 +1,20 @@
 -- the walk over a plan
-mod WalkLemmas
-mod WalkNodes
+pub mod WalkLemmas
+pub mod WalkNodes
 -- what costs do not matter to
-mod Costless
+pub mod Costless
 -- groups of partial rows
-mod MemoPartials
+pub mod MemoPartials
 -- the law of plans
-mod PlanParts
-mod OperatorCases
-mod PlanLaw
+pub mod PlanParts
+pub mod OperatorCases
+pub mod PlanLaw
+-- the nodes of children
+pub mod CoverLaws
+-- the costs of moves and of plans
+pub mod CostBounds
+pub mod CostFolds
+-- children by their groups
+pub mod GroupsOf
+-- the rows of a small memo's plans, worked out by hand
+mod ByHand

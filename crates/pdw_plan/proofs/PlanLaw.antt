@@ -1,5 +1,5 @@
 -- The law of plans, by induction over plans.
-use Rattle.std.proofs.Common.{◌≡◌, ℕ, suc, ◌-◌, Bool, true, false, true≢false, List, [], ◌∷◌, length, map, is_some, Option, Some, None, refl, sym, ap, ap₂, subst, ◌∙◌, arith, eqb-true, if◌then◌else◌}
+use Rattle.std.proofs.Common.{◌≡◌, ℕ, suc, ◌-◌, Bool, true, false, true≢false, List, [], ◌∷◌, length, map, is_some, Option, Some, None, Result, Ok, Err, IfOk, refl, sym, ap, ap₂, subst, ◌∙◌, arith, eqb-true, if◌then◌else◌}
 use Rattle.std.specs.List.{AllByRecursion, list_any, slice_get}
 use Rattle.std.specs.Option.{option_or}
 use Rattle.std.proofs.lemmas.Bool.{and_parts}
@@ -29,6 +29,7 @@ use Rattle.pdw_move.specs.declared.kinds.Prop.{Prop}
 use Rattle.pdw_plan.proofs.MemoPartials.{AdmitsParts, memo-parts}
 use Rattle.pdw_plan.proofs.OperatorCases.{IsSide, StandAt, binary-case, scan-alone, scan-case, unary-case}
 use Rattle.pdw_plan.proofs.PlanParts.{IsFound, IsOver, any-over, at-some, fault-none, groups-are, one-none, operates-parts, two-none}
+use Rattle.pdw_plan.specs.Answer.{IsAnswer}
 use Rattle.pdw_plan.specs.Given.{Given, applied, expr_among, expr_over, given_by, given_step, returned_by}
 use Rattle.pdw_plan.specs.Walk.{no_costs}
 use Rattle.pdw_plan.specs.Law.{GivesRowsOfGroup}
@@ -41,6 +42,7 @@ use Rattle.pdw_ways.specs.Shape.{IsPlan, Shape, is_root, made_in, query_fault, s
 use Rattle.pdw_ways.specs.Ways.{Costs, are_groups_of, is_at, is_at_some, is_freed, is_moved, is_operated, is_scanned, operates}
 use Rattle.pdw_ways.specs.declared.made.Made.{Made}
 use Rattle.pdw_ways.specs.declared.plan.Plan.{Plan}
+use Rattle.pdw_ways.specs.declared.plan.PlanFault.{PlanFault}
 use Rattle.pdw_ways.specs.declared.plan.Plan.TheOpen.{Plan-F}
 use Rattle.pdw_ways.specs.declared.plan.Plan.TheVariants as plan
 
@@ -296,7 +298,7 @@ plan-gives memo costs p made well is appliance sound tables =
 
 -- ---- plans for the query
 
-query-none : (fault : Option ℕ) (root : Bool) (last : ℕ) → option_or fault (if root then None else Some last) ≡ None → (fault ≡ None) × (root ≡ true)
+pub query-none : (fault : Option ℕ) (root : Bool) (last : ℕ) → option_or fault (if root then None else Some last) ≡ None → (fault ≡ None) × (root ≡ true)
 query-none None true last none = (refl, refl)
 query-none None false last none = absurd (true≢false (ap is_some none))
 query-none (Some node) root last none = absurd (true≢false (ap is_some none))
@@ -313,9 +315,11 @@ query-gives memo is costs p well appliance sound tables =
     let at : slice_get (meanings_in memo is) s.made.group.0 ≡ Some (exactly is.tree) = ap (slice_get (meanings_in memo is)) (root-number memo.groups s.made.group both.1) ∙ memo-root memo is in
     SameBag-trans gives.returned (subst (λ means. AdmitsIf (undivided appliance) means gives.bag) at gives.admitted)
 
--- of what a walk found
-pub walk-gives : (memo : Contents) (p : Plan) (made : Made) → ((costs : Costs) → (query_fault memo.groups (shape_of memo.groups costs p) ≡ None) × ((shape_of memo.groups costs p).made ≡ made)) → GivesRowsOfGroup memo p made
-walk-gives memo p made well =
+-- of what a check answers
+pub answer-gives : (memo : Contents) (p : Plan) (answer : Result (GroupId × Prop) PlanFault) → ((costs : Costs) → IsAnswer memo.groups costs p answer)
+    → IfOk answer (λ made. GivesRowsOfGroup memo p (record { group = made.0; prop = made.1 }))
+answer-gives memo p (Ok made) is =
     let s = shape_of memo.groups no_costs p in
-    let both = query-none s.fault (is_root memo.groups s.made.group) (s.nodes - 1) (well no_costs).0 in
-    plan-gives memo no_costs p made (record { allowed = both.0; makes = (well no_costs).1 })
+    let both = query-none s.fault (is_root memo.groups s.made.group) (s.nodes - 1) (is no_costs).0 in
+    plan-gives memo no_costs p (record { group = made.0; prop = made.1 }) (record { allowed = both.0; makes = (is no_costs).1 })
+answer-gives memo p (Err fault) is = tt

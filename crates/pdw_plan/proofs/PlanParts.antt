@@ -1,6 +1,6 @@
 -- What is known of a plan of which each node is a way: of its children, its group and its expression.
 use Rattle.std.proofs.Common.{◌≡◌, ◌≢◌, ℕ, suc, ◌+◌, ◌==◌, ◌||◌, Bool, true, false, true≢false, cond, List, [], ◌∷◌, map, AllPairs, is_some, Option, Some, None, refl, sym, ap, ap₂, ◌∙◌, arith, tests, if◌then◌else◌}
-use Rattle.std.specs.List.{find, list_any, slice_get}
+use Rattle.std.specs.List.{AllByRecursion, find, list_any, slice_get}
 use Rattle.std.specs.Option.{option_map, option_or}
 use Rattle.std.proofs.lemmas.Bool.{and_parts}
 use Rattle.std.proofs.lemmas.Option.{get_or_from_slice_get, slice_get_within}
@@ -38,6 +38,10 @@ one-none s is = (after-none 0 s [] is).0
 
 pub two-none : (s t : Shape) → fault_after 0 (s ∷ t ∷ []) ≡ None → (s.fault ≡ None) × (t.fault ≡ None)
 two-none s t is = let both = after-none 0 s (t ∷ []) is in (both.0, (after-none (0 + s.nodes) t [] both.1).0)
+
+pub children-none : (n : ℕ) (shapes : List Shape) → fault_after n shapes ≡ None → AllByRecursion (λ (s : Shape). s.fault ≡ None) shapes
+children-none n [] is = tt
+children-none n (s ∷ shapes) is = let both = after-none n s shapes is in (both.0, children-none (n + s.nodes) shapes both.1)
 
 -- ---- a group by its number
 

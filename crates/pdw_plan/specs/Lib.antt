@@ -6,3 +6,9 @@ pub mod Given
 pub mod Walk
 -- the law of plans
 pub mod Law
+-- the nodes of results and of their children
+pub mod Covers
+-- what a check answers
+pub mod Answer
+-- what plans cost
+pub mod Cost

@@ -1,30 +1,38 @@
 //! Which plans are well-formed.
 
-ghost use Rattle.std.specs.Prelude.{◌≡◌, ◌<◌, ◌^◌, None, Some, IfOk, MatchResult};
+ghost use Rattle.std.specs.Prelude.{◌<◌, ◌^◌, IfOk};
+ghost use Rattle.pdw_plan.specs.Answer.{IsAnswer};
 ghost use Rattle.pdw_plan.specs.Count.{node_count};
 ghost use Rattle.pdw_plan.specs.Law.{GivesRowsOfGroup};
-ghost use Rattle.pdw_ways.specs.Shape.{query_fault, shape_of};
 ghost use Rattle.pdw_ways.specs.Ways.{Costs};
 
 use crate::Problem;
 use crate::walk::walk;
-use pdw_groups::GroupId;
+use pdw_groups::{Group, GroupId};
 use pdw_move::Prop;
 use pdw_ways::{Plan, PlanFault};
 
-/// The group and the property of a plan for the query; or the first node, children first, that no way of its group allows, or
-/// the last node, where its group is not the root. It takes no memory.
-pub fn well_formed(plan: &Plan, p: &Problem<'_>) -> Result<(GroupId, Prop), PlanFault>
-    requires few { node_count plan.now < 2 ^ 32 }
-    ensures answer { (costs : Costs) → MatchResult result (λ made. (query_fault p.now.memo.now.groups (shape_of p.now.memo.now.groups costs plan.now) ≡ None) × ((shape_of p.now.memo.now.groups costs plan.now).made ≡ record { group = made.0; prop = made.1 })) (λ fault. query_fault p.now.memo.now.groups (shape_of p.now.memo.now.groups costs plan.now) ≡ Some fault.node) }
-    ensures law { IfOk result (λ made. GivesRowsOfGroup p.now.memo.now plan.now (record { group = made.0; prop = made.1 })) }
+/// The group and the property of a plan over these groups, of which the last is the root; or the first node, children first,
+/// that no way of its group allows, or the last node, where its group is not the root. It takes no memory.
+pub fn well_formed_over(plan: &Plan, groups: &[Group]) -> Result<(GroupId, Prop), PlanFault>
+    requires { node_count plan.now < 2 ^ 32 }
+    ensures { (costs : Costs) → IsAnswer groups.now costs plan.now result }
 {
-    let groups = p.memo.groups();
     let walked = walk(plan, groups, 0)?;
+    let last = walked.next - 1;
     if walked.made.group.0 as usize + 1 == groups.len() {
         return Ok((walked.made.group, walked.made.prop));
     }
-    Err(PlanFault {
-        node: walked.next - 1,
-    })
+    Err(PlanFault { node: last })
+}
+
+/// The group and the property of a plan for the query; or the first node, children first, that no way of its group allows, or
+/// the last node, where its group is not the root. Over every appliance with the memo's tables such a plan gives the rows of
+/// the query. It takes no memory.
+pub fn well_formed(plan: &Plan, p: &Problem<'_>) -> Result<(GroupId, Prop), PlanFault>
+    requires { node_count plan.now < 2 ^ 32 }
+    ensures answer { (costs : Costs) → IsAnswer p.now.memo.now.groups costs plan.now result }
+    ensures law { IfOk result (λ made. GivesRowsOfGroup p.now.memo.now plan.now (record { group = made.0; prop = made.1 })) }
+{
+    well_formed_over(plan, p.memo.groups())
 }
