@@ -4,3 +4,5 @@ pub mod KeyLaws
 pub mod NumeralLaws
 -- properties by the hash of a column
 pub mod WordLaws
+-- data with no float, not deep
+pub mod TextLaws

@@ -9,7 +9,7 @@ use Rattle.std.proofs.Math.Nat.{pow-le-pow_right}
 use Rattle.std.proofs.lemmas.Str.{digit_value_digit}
 use Rattle.pdw_planjson.specs.Numerals.{has_no_leading_zero, is_digit, is_numeral, number_in}
 
-of-digit : (c : ℕ) → is_digit c ≡ true → (48 ≤ c) × (c ≤ 57)
+pub of-digit : (c : ℕ) → is_digit c ≡ true → (48 ≤ c) × (c ≤ 57)
 of-digit c h = let parts = and_parts (nat_le 48 c) (nat_le c 57) h in (leb-true 48 c parts.0, leb-true c 57 parts.1)
 
 all-digits : (text : List ℕ) → list_all is_digit text ≡ true → AllDigits 10 text
@@ -45,7 +45,7 @@ small text of =
     let computed : 10 ^ 32 < 2 ^ 128 = omega arith in
     omega (arith, digits_value-lt 10 text (all-digits text of.digits), most, computed)
 
-numeral-is : (text : List ℕ) → is_numeral text ≡ true → Some (digits_value 10 text) ≡ number_in text
+pub numeral-is : (text : List ℕ) → is_numeral text ≡ true → Some (digits_value 10 text) ≡ number_in text
 unfolding number_in
 numeral-is text h = ap (λ (test : Bool). cond test (Some (digits_value 10 text)) None) (sym h)
 

@@ -12,3 +12,5 @@ pub mod Stack
 pub mod Bounds
 -- what a file describes
 pub mod File
+-- the data of a plan file
+pub mod Written

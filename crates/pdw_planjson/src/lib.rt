@@ -5,11 +5,14 @@ mod bounds;
 mod file;
 mod keys;
 mod line;
+mod lines;
 mod nodes;
 mod numerals;
 mod reading;
 mod stack;
 mod words;
+mod writing;
 
 pub use file::{JsonFault, Place, PlanFile};
 pub use reading::from_text;
+pub use writing::to_text;
