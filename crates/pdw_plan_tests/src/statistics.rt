@@ -58,7 +58,7 @@ fn three_rows(alloc: Global) -> Result<Vec<Row>, NoMemory>
 }
 
 // Three compute nodes and the empty table t.
-fn with_table(alloc: Global, placing: Placing) -> Result<Appliance, NoMemory>
+pub(crate) fn with_table(alloc: Global, placing: Placing) -> Result<Appliance, NoMemory>
     requires { IsPlaced placing 2 }
     ensures { IfOk result (λ appliance. appliance ≡ creating (empty_of 3) (sample_table (116 ∷ []) placing)) }
 {

@@ -1,0 +1,2 @@
+-- trees of the tests
+pub mod Trees
