@@ -5,10 +5,15 @@ CREATE TABLE items (item_id INT, kind TEXT) WITH (DISTRIBUTION = HASH(item_id));
 CREATE TABLE days (day_id INT, month INT) WITH (DISTRIBUTION = REPLICATE);
 CREATE TABLE promo (item INT) WITH (DISTRIBUTION = HASH(item));
 LOAD sales FROM 'sales.csv';
+UPDATE STATISTICS sales;
 LOAD stores FROM 'stores.csv';
+UPDATE STATISTICS stores;
 LOAD items FROM 'items.csv';
+UPDATE STATISTICS items;
 LOAD days FROM 'days.csv';
+UPDATE STATISTICS days;
 LOAD promo FROM 'promo.csv';
+UPDATE STATISTICS promo;
 
 SELECT region, month, SUM(qty) AS total, COUNT(*) AS n
 FROM sales JOIN stores ON store = store_id JOIN items ON item = item_id JOIN days ON day = day_id
