@@ -14,3 +14,5 @@ pub mod Bounds
 pub mod File
 -- the data of a plan file
 pub mod Written
+-- the limits within which a file reads back
+pub mod Limits

@@ -6,6 +6,7 @@ ghost use Rattle.pdw_planjson.specs.Keys as spec;
 
 use serde_json::Value;
 
+/// The elements of a list.
 pub fn elements(value: &Value) -> Option<&[Value]>
     ensures { option_map (λ list. map view list.now) result ≡ spec.elements_of (view value.now) }
 {
@@ -15,6 +16,7 @@ pub fn elements(value: &Value) -> Option<&[Value]>
     }
 }
 
+/// The elements of the list at a key.
 pub fn list_at<'v>(value: &'v Value, key: &str) -> Option<&'v [Value]>
     ensures { option_map (λ list. map view list.now) result ≡ spec.list_at key.now (view value.now) }
 {
@@ -24,6 +26,7 @@ pub fn list_at<'v>(value: &'v Value, key: &str) -> Option<&'v [Value]>
     }
 }
 
+/// The string at a key.
 pub fn text_at<'v>(value: &'v Value, key: &str) -> Option<&'v str>
     ensures { option_map (λ text. text.now) result ≡ spec.text_at key.now (view value.now) }
 {
@@ -33,6 +36,7 @@ pub fn text_at<'v>(value: &'v Value, key: &str) -> Option<&'v str>
     }
 }
 
+/// The unsigned whole number at a key.
 pub fn whole_at(value: &Value, key: &str) -> Option<u64>
     ensures { result ≡ spec.whole_at key.now (view value.now) }
 {
@@ -42,6 +46,7 @@ pub fn whole_at(value: &Value, key: &str) -> Option<u64>
     }
 }
 
+/// Whether it is an object with four keys.
 pub fn has_four(value: &Value) -> bool
     ensures { result ≡ spec.has_four (view value.now) }
 {

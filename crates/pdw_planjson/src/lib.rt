@@ -4,6 +4,7 @@
 mod bounds;
 mod file;
 mod keys;
+mod laws;
 mod line;
 mod lines;
 mod nodes;
@@ -14,5 +15,6 @@ mod words;
 mod writing;
 
 pub use file::{JsonFault, Place, PlanFile};
+pub use laws::written_files_read_back;
 pub use reading::from_text;
 pub use writing::to_text;

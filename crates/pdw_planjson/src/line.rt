@@ -31,7 +31,7 @@ pub enum Kids {
     Two(u64, u64),
 }
 
-/// A node by itself.
+/// A node by itself: the numbers of its children, its group, and what it does.
 #[derive(Clone, Copy)]
 pub struct Line {
     pub kids: Kids,

@@ -1,23 +1,42 @@
 //! The nodes of a plan as data.
 
-ghost use Rattle.std.specs.Prelude.{◌≡◌, ◌+◌, ◌++◌, ◌∷◌, [], length, map, string_bytes, IfOk, OnOk};
+ghost use Rattle.std.specs.Prelude.{◌≡◌, ◌+◌, ◌++◌, ◌∷◌, [], true, length, map, nat_le, string_bytes, IfOk, OnOk};
+ghost use Rattle.std.specs.List.{list_all};
 ghost use Rattle.serde_json.specs.View.{view};
+ghost use Rattle.pdw_planjson.specs.Limits as limits;
 ghost use Rattle.pdw_planjson.specs.Written as spec;
 
 use crate::line::Task;
-use pdw_base::NoMemory;
+use pdw_base::{ColId, NoMemory};
 use pdw_groups::GroupId;
 use pdw_move::{Move, Prop};
 use pdw_ways::Plan;
 use serde_json::{Value, json};
 use std::alloc::Global;
 
+// A group's number, which its type keeps in its range.
+fn group_number(group: GroupId) -> u32
+    ensures value { result ≡ group.0 }
+    ensures range { limits.is_group group ≡ true }
+{
+    group.0
+}
+
+// A column's number, which its type keeps in its range.
+fn column_number(column: ColId) -> u16
+    ensures value { result ≡ column.0 }
+    ensures range { nat_le column.0 65535 ≡ true }
+{
+    column.0
+}
+
 fn prop_word(alloc: Global, prop: Prop) -> Result<String, NoMemory>
-    ensures { IfOk result (λ word. string_bytes word ≡ spec.prop_word prop) }
+    ensures word { IfOk result (λ word. string_bytes word ≡ spec.prop_word prop) }
+    ensures column { OnOk result (limits.has_column prop ≡ true) }
 {
     match prop {
         Prop::Spread => Ok(String::from_str(alloc, "spread")?),
-        Prop::Hash(column) => Ok(format!(in alloc; "hash:{}", column.0)?),
+        Prop::Hash(column) => Ok(format!(in alloc; "hash:{}", column_number(column))?),
         Prop::Replicated => Ok(String::from_str(alloc, "replicated")?),
         Prop::Single => Ok(String::from_str(alloc, "single")?),
         Prop::Control => Ok(String::from_str(alloc, "control")?),
@@ -64,12 +83,15 @@ fn node_value(
     group: GroupId,
     task: Task,
 ) -> Result<Value, NoMemory>
-    ensures { IfOk result (λ value. view value ≡ spec.node_data (map view kids.items) group task) }
+    ensures value { IfOk result (λ value. view value ≡ spec.node_data (map view kids.items) group task) }
+    ensures group { OnOk result (limits.is_group group ≡ true) }
+    ensures column { OnOk result (limits.has_column (spec.prop_of task) ≡ true) }
 {
     let Ok(prop) = prop_word(alloc, prop_of(task)) else {
         return Err(NoMemory);
     };
-    let node = json!(in alloc; {"children": kids, "group": group.0, "kind": kind_word(task), "prop": prop});
+    let node =
+        json!(in alloc; {"children": kids, "group": group_number(group), "kind": kind_word(task), "prop": prop});
     match node {
         Ok(node) => Ok(node),
         Err(_) => Err(NoMemory),
@@ -92,6 +114,8 @@ fn write_node(
     nodes: &mut Vec<Value>,
 ) -> Result<Root, NoMemory>
     ensures root { IfOk result (λ root. (root.number ≡ length nodes.old.items) × (root.group ≡ group)) }
+    ensures group { OnOk result (limits.is_group group ≡ true) }
+    ensures column { OnOk result (limits.has_column (spec.prop_of task) ≡ true) }
     ensures count { OnOk result (length nodes.new.items ≡ length nodes.old.items + 1) }
     ensures nodes { OnOk result (map view nodes.new.items ≡ map view nodes.old.items ++ spec.node_data (map view kids.items) group task ∷ []) }
 {
@@ -110,12 +134,10 @@ fn one_kid(alloc: Global, number: usize) -> Result<Vec<Value>, NoMemory>
 }
 
 #[cycle(write)]
-fn write_all(
-    alloc: Global,
-    plans: &[Plan],
-    nodes: &mut Vec<Value>,
-) -> Result<Vec<Value>, NoMemory>
+#[tactic(auto, using(crate::proofs::BoolLaws::and_next, crate::proofs::BoolLaws::both_hold))]
+fn write_all(alloc: Global, plans: &[Plan], nodes: &mut Vec<Value>) -> Result<Vec<Value>, NoMemory>
     ensures kids { IfOk result (λ kids. map view kids.items ≡ spec.roots (length nodes.old.items) (map spec.listing plans.now)) }
+    ensures numbers { OnOk result (list_all (λ numbers. numbers) (map limits.has_numbers plans.now) ≡ true) }
     ensures count { OnOk result (length nodes.new.items ≡ length nodes.old.items + spec.count_of_all (map spec.listing plans.now)) }
     ensures nodes { OnOk result (map view nodes.new.items ≡ map view nodes.old.items ++ spec.nodes_of_all (length nodes.old.items) (map spec.listing plans.now)) }
 {
@@ -129,8 +151,10 @@ fn write_all(
 
 /// Writes the nodes of a plan, children first, after those that stand there.
 #[cycle(write)]
+#[tactic(auto, using(crate::proofs::BoolLaws::and_next, crate::proofs::BoolLaws::both_hold))]
 pub fn write(alloc: Global, plan: &Plan, nodes: &mut Vec<Value>) -> Result<Root, NoMemory>
     ensures root { IfOk result (λ root. (root.number ≡ length nodes.old.items + (spec.listing plan.now).before) × (root.group ≡ (spec.listing plan.now).group)) }
+    ensures numbers { OnOk result (limits.has_numbers plan.now ≡ true) }
     ensures count { OnOk result (length nodes.new.items ≡ length nodes.old.items + (spec.listing plan.now).before + 1) }
     ensures nodes { OnOk result (map view nodes.new.items ≡ map view nodes.old.items ++ (spec.listing plan.now).nodes (length nodes.old.items)) }
 {

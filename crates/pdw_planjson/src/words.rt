@@ -28,6 +28,7 @@ fn hashed(text: &str) -> Option<Prop>
     }
 }
 
+/// The property of a word.
 #[tactic(auto, unfolding(crate::specs::Words::prop_in))]
 pub fn prop_in(text: &str) -> Option<Prop>
     ensures { result ≡ spec.prop_in text.now }
@@ -95,6 +96,7 @@ fn free_task(prop: Prop) -> Option<Task>
     }
 }
 
+/// What a node of a kind does that has a property, where the kind may have it.
 #[tactic(auto, unfolding(crate::specs::Words::task_in))]
 pub fn task_in(word: &str, prop: Prop) -> Option<Task>
     ensures { result ≡ spec.task_in word.now prop }

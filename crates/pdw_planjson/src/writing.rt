@@ -1,9 +1,11 @@
 //! Plan files as texts.
 
-ghost use Rattle.std.specs.Prelude.{◌≡◌, length, map, take, IfOk, IsUtf8, Some};
+ghost use Rattle.std.specs.Prelude.{◌≡◌, true, map, IfOk, IsUtf8, OnOk, Ok, Some};
 ghost use Rattle.serde_json.specs.Read.{read};
 ghost use Rattle.serde_json.specs.View.{view};
 ghost use Rattle.serde_json.specs.Written.{compact_text};
+ghost use Rattle.pdw_planjson.specs.File.{described};
+ghost use Rattle.pdw_planjson.specs.Limits.{IsFile, has_numbers};
 ghost use Rattle.pdw_planjson.specs.Written as spec;
 
 use crate::file::PlanFile;
@@ -43,7 +45,8 @@ fn list_values(alloc: Global, lists: &[Items<Option<u128>>]) -> Result<Vec<Value
 }
 
 fn file_value(alloc: Global, file: &PlanFile) -> Result<Value, NoMemory>
-    ensures { IfOk result (λ value. view value ≡ spec.file_data file.now) }
+    ensures value { IfOk result (λ value. view value ≡ spec.file_data file.now) }
+    ensures numbers { OnOk result (has_numbers file.now.plan ≡ true) }
 {
     let mut nodes = Vec::new(alloc);
     let _root = write(alloc, &file.plan, &mut nodes)?;
@@ -56,11 +59,13 @@ fn file_value(alloc: Global, file: &PlanFile) -> Result<Value, NoMemory>
     }
 }
 
-/// The text of a plan file: compact, with the keys of each object in order.
+/// The text of a plan file: compact, with the keys of each object in order. Within the limits of plan files `from_text` reads the
+/// same file from it.
 pub fn to_text(alloc: Global, file: &PlanFile) -> Result<Vec<u8>, NoMemory>
     ensures utf8 { IfOk result (λ written. IsUtf8 written.items) }
     ensures compact { IfOk result (λ written. written.items ≡ compact_text (spec.file_data file.now)) }
     ensures reads { IfOk result (λ written. read written.items ≡ Some (spec.file_data file.now)) }
+    ensures back { OnOk result (IsFile file.now → described (spec.file_data file.now) ≡ Ok file.now) }
 {
     let value = file_value(alloc, file)?;
     Ok(value.to_vec(alloc)?)
