@@ -1,0 +1,2 @@
+-- how many nodes plans have
+mod Counts
