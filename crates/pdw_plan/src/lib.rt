@@ -15,6 +15,6 @@ pub use laws::{
     operators_find_their_children, plans_for_the_query_return_its_rows,
     plans_give_rows_of_their_group,
 };
-pub use pdw_ways::{Bounds, Made, Plan, PlanFault, Way};
+pub use pdw_ways::{Bounds, CheckFault, Made, Plan, PlanFault, Way};
 pub use problem::Problem;
 pub use query::{well_formed, well_formed_over};

@@ -22,5 +22,5 @@ pub use laws::{
 pub use least::{inner_offer, least_offer, local_offer};
 pub use made::Made;
 pub use offer::Offer;
-pub use plan::{Bounds, Plan, PlanFault};
+pub use plan::{Bounds, CheckFault, Plan, PlanFault};
 pub use way::Way;

@@ -42,3 +42,36 @@ pub struct PlanFault {
     /// The node's number, from 0.
     pub node: u32,
 }
+
+/// Why a plan is not accepted with the cost and the bounds that are given beside it. The first of these that is there, in
+/// this order.
+#[derive(Clone, Copy, PartialEq, Eq)]
+pub enum CheckFault {
+    /// The plan is none for the query: its first node, children first, that no way allows, or the last, where its group is not
+    /// the root.
+    PlanShape {
+        node: u32,
+    },
+    /// The plan costs something else.
+    WrongCost {
+        written: u128,
+        computed: u128,
+    },
+    /// The first group, by number, whose list of bounds is missing, surplus or of another length than its properties.
+    BoundShape {
+        group: u32,
+    },
+    /// The first bound, by group and property, that exceeds what the bounds of the children and the cost of a move add up to
+    /// for some way; `limit` is the least such sum.
+    BoundTooHigh {
+        group: u32,
+        prop: Prop,
+        bound: Option<u128>,
+        limit: u128,
+    },
+    /// The least bound of the root is not the cost.
+    NotTight {
+        cost: u128,
+        bound: Option<u128>,
+    },
+}
