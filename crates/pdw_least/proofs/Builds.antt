@@ -1,26 +1,25 @@
 -- A plan that is read off a log costs what the log says.
-use Rattle.std.proofs.Common.{◌≡◌, ◌==◌, ◌&&◌, ◌<◌, ◌≤◌, ◌+◌, ℕ, zero, suc, Bool, true, false, List, [], ◌∷◌, ◌++◌, length, take, drop, fold, get_or, Option, Some, None, refl, sym, ap, subst, ◌∙◌, arith, if◌then◌else◌}
+use Rattle.std.proofs.Common.{◌≡◌, ◌<◌, ◌+◌, ℕ, zero, suc, Bool, true, false, List, [], ◌∷◌, ◌++◌, length, take, drop, get_or, Option, Some, None, refl, sym, ap, subst, ◌∙◌, arith, if◌then◌else◌}
 use Rattle.std.proofs.lemmas.Option.{same_Some, slice_get_within}
 use Rattle.std.proofs.lemmas.List.{length-take, take_more}
 use Rattle.std.specs.List.{slice_get}
 use Rattle.std.specs.Option.{IsSome}
 use Rattle.pdw_groups.specs.declared.group.Group.{Group}
-use Rattle.pdw_groups.specs.declared.key.GroupId.{GroupId}
 use Rattle.pdw_move.specs.Move.{property_before}
 use Rattle.pdw_move.specs.declared.kinds.Move.{Move}
 use Rattle.pdw_move.specs.declared.kinds.Prop.{Prop}
-use Rattle.pdw_ways.specs.Bounds.{Bound}
+use Rattle.pdw_ways.specs.Bounds.{AtMost, Bound}
 use Rattle.pdw_ways.specs.Ways.{Costs}
 use Rattle.pdw_ways.specs.declared.made.Made.{Made}
 use Rattle.pdw_ways.specs.declared.plan.Plan.{Plan}
 use Rattle.pdw_ways.specs.declared.plan.Plan.TheVariants as plan
 use Rattle.pdw_ways.specs.declared.way.Way.{Way}
 use Rattle.pdw_ways.specs.declared.way.Way.TheVariants as way
-use Rattle.pdw_least.proofs.Logs.{log-front, made-alike, one-part, two-parts}
+use Rattle.pdw_least.proofs.Logs.{bounds-longer, log-front, made-alike, one-part, two-parts}
 use Rattle.pdw_least.proofs.Nodes.{Makes, freed-makes, moved-makes, one-makes, scan-makes, two-makes}
 use Rattle.pdw_least.proofs.Steps.{after-more}
 use Rattle.pdw_least.specs.Built.{IsBuilt, IsLast, IsLastAt, IsLastIn}
-use Rattle.pdw_least.specs.Log.{IsEntry, IsLog, IsLogFrom, bounds_after, bounds_from, is_same_made, none_before, put}
+use Rattle.pdw_least.specs.Log.{IsBelow, IsEntry, IsLog, IsLogFrom, bounds_after, is_same_made, none_before, put}
 use Rattle.pdw_least.specs.declared.entry.Entry.{Entry}
 
 -- ---- the last entry
@@ -83,7 +82,8 @@ split-at (first ∷ xs) (suc k) x there = ap (λ (ys : _). first ∷ ys) (split-
 module _ (groups : List Group) (costs : Costs) (log : List Entry) (is : IsLog groups costs log) (made : Made) (number : ℕ) (last : IsLastAt log made number) where
   pub last-is : (w : Way) → w ≡ last.entry.way → IsLast groups costs log made number w
   last-is w same =
-      let parts = log-front groups costs none_before (take number log) (last.entry ∷ drop (suc number) log) (subst (IsLogFrom groups costs none_before) (split-at log number last.entry last.there) is) in
+      let whole = subst (IsLogFrom groups costs none_before) (split-at log number last.entry last.there) is in
+      let parts = log-front groups costs none_before (take number log) (last.entry ∷ drop (suc number) log) whole in
       record {
         within = slice_get_within log number last.entry last.there;
         front = parts.0;
@@ -91,6 +91,9 @@ module _ (groups : List Group) (costs : Costs) (log : List Entry) (is : IsLog gr
         found = last.found;
         entry = subst (λ (x : Way). IsEntry groups costs (bounds_after (take number log)) (record { made = made; way = x; cost = last.entry.cost })) (sym same)
             (subst (λ (m : Made). IsEntry groups costs (bounds_after (take number log)) (record { made = m; way = last.entry.way; cost = last.entry.cost })) last.makes parts.1.0);
+        below = subst (λ (m : Made). IsBelow last.entry.cost (bounds_after (take number log) m)) last.makes parts.1.1;
+        falls = λ other. subst (λ (l : List Entry). AtMost (bounds_after l other) (bounds_after (take number log) other)) (sym (split-at log number last.entry last.there))
+            (bounds-longer groups costs (take number log) (last.entry ∷ drop (suc number) log) whole other);
       }
 
 -- ---- plans of entries

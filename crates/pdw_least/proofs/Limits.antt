@@ -1,21 +1,21 @@
 -- What operators make costs at most their limit, by the weights of groups; moves and free changes go a little beyond.
-use Rattle.std.proofs.Common.{◌≡◌, ◌==◌, ◌&&◌, ◌≤◌, ◌<◌, ◌+◌, ◌*◌, ◌^◌, ℕ, suc, Bool, true, false, true≢false, ◌⊎◌, inl, inr, List, [], ◌∷◌, fold, nat_lt, Option, Some, None, refl, sym, ap, ap₂, subst, ◌∙◌, arith, if◌then◌else◌}
+use Rattle.std.proofs.Common.{◌≡◌, ◌==◌, ◌≤◌, ◌<◌, ◌+◌, ◌*◌, ℕ, suc, Bool, true, false, true≢false, ◌⊎◌, inl, inr, List, [], ◌∷◌, fold, Option, Some, None, refl, sym, ap, ap₂, subst, ◌∙◌, arith, if◌then◌else◌}
 use Rattle.std.proofs.lemmas.Bool.{and_parts, or_cases, ltb-true, ne_eqb}
 use Rattle.std.specs.List.{AllByRecursion, list_any, slice_get, sum_by}
 use Rattle.pdw_groups.specs.declared.group.Expr.{Expr}
 use Rattle.pdw_groups.specs.declared.group.Group.{Group}
 use Rattle.pdw_groups.specs.declared.key.GroupId.{GroupId}
-use Rattle.pdw_move.specs.Move.{property_after, property_before}
+use Rattle.pdw_move.specs.Move.{property_before}
 use Rattle.pdw_move.specs.declared.kinds.Move.{Move}
 use Rattle.pdw_move.specs.declared.kinds.Move.TheVariants as move
 use Rattle.pdw_move.specs.declared.kinds.Prop.{Prop}
 use Rattle.pdw_move.specs.declared.kinds.Prop.TheVariants as prop
-use Rattle.pdw_rules.specs.Rules.{is_free, is_same, local_rule, may_have}
+use Rattle.pdw_rules.specs.Rules.{is_free, is_same, may_have}
 use Rattle.pdw_ways.proofs.Same.{group-alike, never, same-alike}
-use Rattle.pdw_ways.specs.Bounds.{Bound, bound_in, plus, sum_of}
+use Rattle.pdw_ways.specs.Bounds.{Bound, plus, sum_of}
 use Rattle.pdw_ways.specs.Costing.{most_of_a_move}
-use Rattle.pdw_ways.specs.Offers.{IsInnerWay, IsLocalWay, is_local}
-use Rattle.pdw_ways.specs.Ways.{Costs, are_groups_of, is_way, operates}
+use Rattle.pdw_ways.specs.Offers.{IsInnerWay, IsLocalWay}
+use Rattle.pdw_ways.specs.Ways.{Costs, are_groups_of, operates}
 use Rattle.pdw_ways.specs.declared.made.Made.{Made}
 use Rattle.pdw_ways.specs.declared.way.Way.{Way}
 use Rattle.pdw_ways.specs.declared.way.Way.TheVariants as way
@@ -61,7 +61,7 @@ module _ (groups : List Group) (costs : Costs) (number : GroupId) (group : Group
       let found = operating (λ (expr : Expr). AllByRecursion (λ (child : GroupId). child.0 < number.0) expr.children) first below p group.exprs (ordered number.0 group there) is in
       groups-smaller number.0 (first ∷ below) found.0.children found.1.0 found.1.1
 
-  children-lighter : (light : AreLight groups) (first : Made) (below : List Made) → list_any (operates (first ∷ below) p) group.exprs ≡ true → suc (sum_by (λ (m : Made). light.weight m.group.0) (first ∷ below)) ≤ light.weight number.0
+  pub children-lighter : (light : AreLight groups) (first : Made) (below : List Made) → list_any (operates (first ∷ below) p) group.exprs ≡ true → suc (sum_by (λ (m : Made). light.weight m.group.0) (first ∷ below)) ≤ light.weight number.0
   children-lighter light first below is =
       let found = operating (λ (expr : Expr). suc (sum_by (λ (child : GroupId). light.weight child.0) expr.children) ≤ light.weight number.0) first below p group.exprs (light.over number.0 group there) is in
       subst (λ (n : ℕ). suc n ≤ light.weight number.0) (groups-weigh light.weight 0 (first ∷ below) found.0.children found.1.0) found.1.1

@@ -1,14 +1,15 @@
 -- Each bound of a log is what a plan costs: the plan is read off entry by entry.
-use Rattle.std.proofs.Common.{◌≡◌, ◌==◌, ◌&&◌, ◌+◌, ℕ, Bool, true, false, List, [], ◌∷◌, ◌++◌, fold, Option, Some, None, refl, sym, ap, subst, ◌∙◌, arith, if◌then◌else◌}
+use Rattle.std.proofs.Common.{◌≡◌, ◌==◌, ◌+◌, ℕ, Bool, true, false, List, [], ◌∷◌, ◌++◌, Option, Some, None, refl, sym, ap, subst, ◌∙◌, arith, if◌then◌else◌}
 use Rattle.std.proofs.lemmas.Bool.{and_parts}
-use Rattle.std.specs.Option.{IfSome}
+use Rattle.std.proofs.lemmas.List.Sums.{fold-append}
 use Rattle.pdw_groups.specs.declared.group.Group.{Group}
 use Rattle.pdw_groups.specs.declared.key.GroupId.{GroupId}
 use Rattle.pdw_move.specs.Move.{property_before}
 use Rattle.pdw_move.specs.declared.kinds.Prop.{Prop}
 use Rattle.pdw_rules.specs.Rules.{is_same}
-use Rattle.pdw_ways.proofs.Same.{group-alike, never, same-alike}
-use Rattle.pdw_ways.specs.Bounds.{Bound, plus, sum_of}
+use Rattle.pdw_ways.proofs.Numbers.{at_most-refl, at_most-trans}
+use Rattle.pdw_ways.proofs.Same.{group-alike, same-alike}
+use Rattle.pdw_ways.specs.Bounds.{AtMost, Bound, plus}
 use Rattle.pdw_ways.specs.Shape.{HasPlan}
 use Rattle.pdw_ways.specs.Ways.{Costs}
 use Rattle.pdw_ways.specs.declared.made.Made.{Made}
@@ -17,7 +18,7 @@ use Rattle.pdw_ways.specs.declared.plan.Plan.TheVariants as plan
 use Rattle.pdw_ways.specs.declared.way.Way.{Way}
 use Rattle.pdw_ways.specs.declared.way.Way.TheVariants as way
 use Rattle.pdw_least.proofs.Nodes.{Makes, freed-makes, moved-makes, one-makes, scan-makes, two-makes}
-use Rattle.pdw_least.specs.Log.{IsEntry, IsLog, IsLogFrom, bounds_after, bounds_from, is_same_made, none_before, put}
+use Rattle.pdw_least.specs.Log.{IsBelow, IsEntry, IsLog, IsLogFrom, bounds_after, bounds_from, is_same_made, none_before, put}
 use Rattle.pdw_least.specs.declared.entry.Entry.{Entry}
 
 pub made-alike : (first second : Made) → is_same_made first second ≡ true → first ≡ second
@@ -86,20 +87,45 @@ module _ (groups : List Group) (costs : Costs) where
 
   plans-from : (bound : Bound) (log : List Entry) → HavePlans bound → IsLogFrom groups costs bound log → HavePlans (bounds_from bound log)
   plans-from bound [] plans is = plans
-  plans-from bound (entry ∷ log) plans is = plans-from (put bound entry) log (put-plans bound entry plans is.0) is.1
+  plans-from bound (entry ∷ log) plans is = plans-from (put bound entry) log (put-plans bound entry plans is.0) is.2
 
   pub log-plans : (log : List Entry) → IsLog groups costs log → HavePlans (bounds_after log)
   log-plans log is = plans-from none_before log (λ made cost none. absurd (cc)) is
 
   -- ---- one more entry
 
-  pub log-more : (bound : Bound) (log : List Entry) (entry : Entry) → IsLogFrom groups costs bound log → IsEntry groups costs (bounds_from bound log) entry → IsLogFrom groups costs bound (log ++ entry ∷ [])
-  log-more bound [] entry is next = (next, tt)
-  log-more bound (first ∷ log) entry is next = (is.0, log-more (put bound first) log entry is.1 next)
+  pub log-more : (bound : Bound) (log : List Entry) (entry : Entry) → IsLogFrom groups costs bound log → IsEntry groups costs (bounds_from bound log) entry → IsBelow entry.cost (bounds_from bound log entry.made) → IsLogFrom groups costs bound (log ++ entry ∷ [])
+  log-more bound [] entry is next below = (next, below, tt)
+  log-more bound (first ∷ log) entry is next below = (is.0, is.1, log-more (put bound first) log entry is.2 next below)
 
   -- the part of a log before an entry, and the entry
   pub log-front : (bound : Bound) (front back : List Entry) → IsLogFrom groups costs bound (front ++ back) → IsLogFrom groups costs bound front × IsLogFrom groups costs (bounds_from bound front) back
   log-front bound [] back is = (tt, is)
   log-front bound (entry ∷ front) back is =
-      let rest = log-front (put bound entry) front back is.1 in
-      ((is.0, rest.0), rest.1)
+      let rest = log-front (put bound entry) front back is.2 in
+      ((is.0, is.1, rest.0), rest.1)
+
+-- ---- bounds only fall
+
+below-at_most : (cost : ℕ) (bound : Option ℕ) → IsBelow cost bound → AtMost (Some cost) bound
+below-at_most cost None below = tt
+below-at_most cost (Some bound) below = omega arith
+
+put-at_most : (bound : Bound) (entry : Entry) → IsBelow entry.cost (bound entry.made) → (made : Made) → AtMost (put bound entry made) (bound made)
+put-at_most bound entry below made = by (is_same_made entry.made made) refl
+  where
+    by : (test : Bool) → is_same_made entry.made made ≡ test → AtMost (if test then Some entry.cost else bound made) (bound made)
+    by true same = subst (λ (m : Made). AtMost (Some entry.cost) (bound m)) (made-alike entry.made made same) (below-at_most entry.cost (bound entry.made) below)
+    by false other = at_most-refl (bound made)
+
+module _ (groups : List Group) (costs : Costs) where
+  bounds-fall : (bound : Bound) (log : List Entry) → IsLogFrom groups costs bound log → (made : Made) → AtMost (bounds_from bound log made) (bound made)
+  bounds-fall bound [] is made = at_most-refl (bound made)
+  bounds-fall bound (entry ∷ log) is made =
+      at_most-trans (bounds_from (put bound entry) log made) (put bound entry made) (bound made) (bounds-fall (put bound entry) log is.2 made) (put-at_most bound entry is.1 made)
+
+  -- bounds after a log are at most those after its front
+  pub bounds-longer : (front back : List Entry) → IsLog groups costs (front ++ back) → (made : Made) → AtMost (bounds_after (front ++ back) made) (bounds_after front made)
+  bounds-longer front back is made =
+      subst (λ (bound : Bound). AtMost (bound made) (bounds_after front made)) (sym (fold-append put none_before front back))
+      (bounds-fall (bounds_after front) back (log-front groups costs none_before front back is).1 made)

@@ -1,5 +1,5 @@
 -- Nodes over plans that cost the bounds of a way are plans that cost its sum.
-use Rattle.std.proofs.Common.{◌≡◌, ◌==◌, ◌&&◌, ◌+◌, ℕ, Bool, true, false, List, [], ◌∷◌, map, Option, Some, None, refl, sym, ap, ap₂, subst, ◌∙◌, arith, if◌then◌else◌}
+use Rattle.std.proofs.Common.{◌≡◌, ◌+◌, ℕ, Bool, true, false, List, [], ◌∷◌, Option, Some, None, refl, sym, ap, ap₂, subst, ◌∙◌, arith, if◌then◌else◌}
 use Rattle.std.proofs.lemmas.Bool.{and_parts}
 use Rattle.std.specs.List.{slice_get}
 use Rattle.std.specs.Option.{option_map, option_or}
@@ -8,10 +8,10 @@ use Rattle.pdw_groups.specs.declared.key.GroupId.{GroupId}
 use Rattle.pdw_move.specs.Move.{property_after, property_before}
 use Rattle.pdw_move.specs.declared.kinds.Move.{Move}
 use Rattle.pdw_move.specs.declared.kinds.Prop.{Prop}
-use Rattle.pdw_rules.specs.Rules.{is_free, is_same, may_have}
+use Rattle.pdw_rules.specs.Rules.{is_same}
 use Rattle.pdw_ways.proofs.PlanFolds.{fold-free, fold-moved, fold-op, fold-scan}
-use Rattle.pdw_ways.proofs.Same.{same-alike, same-itself}
-use Rattle.pdw_ways.specs.Shape.{IsPlan, Shape, cost_in, fault_after, fault_at, made_in, nodes_in, shape_of, shape_step}
+use Rattle.pdw_ways.proofs.Same.{same-alike}
+use Rattle.pdw_ways.specs.Shape.{IsPlan, Shape, fault_after, fault_at, nodes_in, shape_of, shape_step}
 use Rattle.pdw_ways.specs.Ways.{Costs, is_at, is_at_some, is_freed, is_moved, is_operated, is_scanned, is_way}
 use Rattle.pdw_ways.specs.declared.made.Made.{Made}
 use Rattle.pdw_ways.specs.declared.plan.Plan.{Plan}

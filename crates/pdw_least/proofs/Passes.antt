@@ -1,5 +1,5 @@
 -- A step of each pass over the properties of the group at hand.
-use Rattle.std.proofs.Common.{◌≡◌, ◌==◌, ◌≤◌, ◌<◌, ◌+◌, ◌*◌, ◌^◌, ℕ, Bool, true, false, true≢false, ◌||◌, List, [], ◌∷◌, ◌++◌, length, Option, Some, None, refl, sym, ap, ap₂, subst, ◌∙◌, arith, if◌then◌else◌}
+use Rattle.std.proofs.Common.{◌≡◌, ◌≤◌, ◌<◌, ◌^◌, ℕ, Bool, true, false, true≢false, ◌||◌, List, [], ◌∷◌, ◌++◌, Option, Some, None, refl, sym, ap, subst, ◌∙◌, arith, if◌then◌else◌}
 use Rattle.std.specs.List.{AllByRecursion, list_any, slice_get}
 use Rattle.std.specs.Option.{IfSome}
 use Rattle.pdw_groups.specs.declared.group.Group.{Group}
@@ -11,7 +11,7 @@ use Rattle.pdw_rules.specs.Rules.{is_same, properties_of}
 use Rattle.pdw_ways.proofs.Numbers.{at_most-trans}
 use Rattle.pdw_ways.specs.Bounds.{AtMost, Bound, bound_by, bound_in, plus, row_bound, sum_of}
 use Rattle.pdw_ways.specs.Costing.{most_of_a_move}
-use Rattle.pdw_ways.specs.Offers.{Best, IsInnerWay, IsLocalWay, cost_of_offer, is_local}
+use Rattle.pdw_ways.specs.Offers.{Best, IsInnerWay, IsLocalWay, cost_of_offer}
 use Rattle.pdw_ways.specs.Ways.{Costs}
 use Rattle.pdw_ways.specs.declared.made.Made.{Made}
 use Rattle.pdw_ways.specs.declared.offer.Offer.{Offer}
@@ -20,9 +20,9 @@ use Rattle.pdw_ways.specs.declared.way.Way.TheVariants as way
 use Rattle.pdw_least.proofs.Limits.{inner-from, local-limit, local-sums, room-step, smaller-other, within-more}
 use Rattle.pdw_least.proofs.Rows.{lowered-worth}
 use Rattle.pdw_least.proofs.Steps.{IsFit, after-more, entry, here, listed-way, lower-here, lowered-bound, lowered-falls, lowered-under, lowered-working, put-mine}
-use Rattle.pdw_least.specs.Log.{IsEntry, bounds_after, put}
+use Rattle.pdw_least.specs.Log.{IsEntry, bounds_after}
 use Rattle.pdw_least.specs.Premises.{AreLight, AreOrdered, AreWithin, IsWithin, limit_of_operators}
-use Rattle.pdw_least.specs.States.{AreUnderInner, AreUnderLocal, HasRoom, IsInnerGoing, IsLess, IsLocalDone, IsPassing, IsUnderWays, IsWorking, bound_here, falls, is_lower, lowered_log, lowered_row, worth}
+use Rattle.pdw_least.specs.States.{AreUnderInner, HasRoom, IsInnerGoing, IsLess, IsLocalDone, IsPassing, IsUnderWays, IsWorking, bound_here, falls, is_lower, lowered_log, lowered_row, worth}
 use Rattle.pdw_least.specs.declared.entry.Entry.{Entry}
 
 pub all-push : {X : Type 0} (P : X → Type 0) (xs : List X) (x : X) → AllByRecursion P xs → P x → AllByRecursion P (xs ++ x ∷ [])

@@ -1,6 +1,5 @@
 -- By valid bounds the rows of each group of a complete memo can be brought to one node: by induction over its groups.
-use Rattle.std.proofs.Common.{◌≡◌, ◌==◌, ◌&&◌, ◌||◌, ◌<◌, ◌≤◌, ◌+◌, ℕ, zero, suc, Bool, true, false, List, [], ◌∷◌, length, get_or, Option, Some, None, refl, sym, ap, subst, ◌∙◌, arith}
-use Rattle.std.proofs.lemmas.Bool.{and_parts}
+use Rattle.std.proofs.Common.{◌≡◌, ◌==◌, ◌&&◌, ◌<◌, ℕ, zero, suc, Bool, true, false, List, [], ◌∷◌, get_or, Option, Some, None, refl, sym, subst, arith}
 use Rattle.std.proofs.lemmas.Option.{slice_get-get_or, slice_get_within}
 use Rattle.std.specs.List.{AllByRecursion, list_any, slice_get}
 use Rattle.std.specs.Option.{IsSome}
@@ -13,13 +12,12 @@ use Rattle.pdw_groups.specs.declared.op.Op.TheVariants as op
 use Rattle.pdw_move.specs.declared.kinds.Move.TheVariants as move
 use Rattle.pdw_move.specs.declared.kinds.Prop.{Prop}
 use Rattle.pdw_move.specs.declared.kinds.Prop.TheVariants as prop
-use Rattle.pdw_rules.specs.Rules.{binary_rule, hashes_rule, is_same, leaf_rule, local_rule, may_have, replicated_left_rule, replicated_right_rule, scan_property, unary_rule}
+use Rattle.pdw_rules.specs.Rules.{binary_rule, hashes_rule, leaf_rule, may_have, replicated_left_rule, replicated_right_rule, scan_property, unary_rule}
 use Rattle.pdw_ways.proofs.Improves.{or-left, or-right}
 use Rattle.pdw_ways.proofs.JoinWays.{and-both}
 use Rattle.pdw_ways.proofs.Same.{group-itself, never, same-itself}
 use Rattle.pdw_ways.specs.Bounds.{AreValid, AtMost, Bound, plus, sum_of}
 use Rattle.pdw_ways.specs.Ways.{Costs, are_groups_of, is_way, operates}
-use Rattle.pdw_ways.specs.declared.made.Made.{Made}
 use Rattle.pdw_ways.specs.declared.way.Way.{Way}
 use Rattle.pdw_ways.specs.declared.way.Way.TheVariants as way
 use Rattle.pdw_least.proofs.Steps.{here}

@@ -1,10 +1,10 @@
 -- A bound that is put to its place in a row is found there, and the others are as before.
-use Rattle.std.proofs.Common.{◌≡◌, ◌≤◌, ◌<◌, ◌+◌, ◌^◌, ℕ, zero, suc, cond, Bool, true, false, ◌||◌, true≢false, inl, inr, List, [], ◌∷◌, ◌++◌, length, zip, fold, get_or, nat_lt, Option, Some, None, refl, sym, ap, subst, ◌∙◌, arith, if◌then◌else◌}
+use Rattle.std.proofs.Common.{◌≡◌, ◌<◌, ◌^◌, ℕ, zero, suc, cond, Bool, true, false, ◌||◌, true≢false, List, [], ◌∷◌, length, zip, get_or, Option, Some, None, refl, sym, ap, subst, ◌∙◌, arith, if◌then◌else◌}
 use Rattle.std.proofs.lemmas.Bool.{ltb-true}
 use Rattle.std.proofs.lemmas.List.{length-set}
 use Rattle.std.proofs.lemmas.List.Sums.{sum_by-set}
 use Rattle.std.proofs.lemmas.Option.{slice_get-get_or}
-use Rattle.std.specs.List.{list_any, slice_get, slice_set, sum_by}
+use Rattle.std.specs.List.{list_any, slice_get, slice_set}
 use Rattle.std.specs.Map.{lookup}
 use Rattle.std.specs.Option.{IfSome, option_and_then, option_map}
 use Rattle.pdw_base.specs.declared.schema.ColId.{ColId}

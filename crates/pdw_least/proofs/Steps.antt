@@ -1,30 +1,28 @@
 -- A fall keeps what is known of the group at hand.
-use Rattle.std.proofs.Common.{◌≡◌, ◌==◌, ◌&&◌, ◌≤◌, ◌<◌, ◌+◌, ◌*◌, ◌^◌, ℕ, suc, Bool, true, false, ◌||◌, true≢false, ◌⊎◌, inl, inr, List, [], ◌∷◌, ◌++◌, length, fold, nat_lt, Option, Some, None, refl, sym, ap, subst, ◌∙◌, arith, if◌then◌else◌}
+use Rattle.std.proofs.Common.{◌≡◌, ◌==◌, ◌&&◌, ℕ, suc, Bool, true, false, ◌||◌, true≢false, List, [], ◌∷◌, ◌++◌, Option, Some, None, refl, sym, ap, subst, ◌∙◌, arith, if◌then◌else◌}
 use Rattle.std.proofs.lemmas.Bool.{and_parts, eqb-false, ltb-true, ltb-false, ne_eqb}
 use Rattle.std.proofs.lemmas.List.Sums.{fold-append}
-use Rattle.std.specs.List.{AllByRecursion, list_any, slice_get, slice_set}
+use Rattle.std.specs.List.{list_any}
 use Rattle.std.specs.Option.{IfSome, option_map}
-use Rattle.pdw_groups.specs.declared.group.Expr.{Expr}
 use Rattle.pdw_groups.specs.declared.group.Group.{Group}
 use Rattle.pdw_groups.specs.declared.key.GroupId.{GroupId}
 use Rattle.pdw_move.specs.Move.{property_after, property_before}
-use Rattle.pdw_move.specs.declared.kinds.Move.{Move}
 use Rattle.pdw_move.specs.declared.kinds.Prop.{Prop}
 use Rattle.pdw_rules.proofs.Listed.{listed}
-use Rattle.pdw_rules.specs.Rules.{is_free, is_same, local_rule, may_have, properties_of}
-use Rattle.pdw_ways.proofs.Numbers.{at_most-refl, at_most-trans}
+use Rattle.pdw_rules.specs.Rules.{is_free, is_same, may_have, properties_of}
+use Rattle.pdw_ways.proofs.Numbers.{at_most-refl}
 use Rattle.pdw_ways.proofs.Same.{group-itself, never, same-alike, same-itself}
-use Rattle.pdw_ways.specs.Bounds.{AtMost, Bound, bound_by, bound_in, place_among, plus, sum_of}
-use Rattle.pdw_ways.specs.Offers.{Best, IsInnerWay, IsLocalWay, IsWay, cost_of_offer, is_local}
-use Rattle.pdw_ways.specs.Ways.{Costs, are_groups_of, is_moved, is_operated, is_way, operates}
+use Rattle.pdw_ways.specs.Bounds.{AtMost, Bound, bound_by, place_among}
+use Rattle.pdw_ways.specs.Offers.{cost_of_offer}
+use Rattle.pdw_ways.specs.Ways.{Costs, is_moved, is_way}
 use Rattle.pdw_ways.specs.declared.made.Made.{Made}
 use Rattle.pdw_ways.specs.declared.offer.Offer.{Offer}
 use Rattle.pdw_ways.specs.declared.way.Way.{Way}
 use Rattle.pdw_ways.specs.declared.way.Way.TheVariants as way
 use Rattle.pdw_least.proofs.Logs.{log-more, made-alike}
-use Rattle.pdw_least.proofs.Rows.{bound-set, put-size, same-turned}
-use Rattle.pdw_least.specs.Log.{IsEntry, IsLog, bounds_after, bounds_from, is_same_made, none_before, put}
-use Rattle.pdw_least.specs.States.{IsWorking, bound_here, falls, is_lower, lowered_log, lowered_row, put_at}
+use Rattle.pdw_least.proofs.Rows.{bound-set, put-size}
+use Rattle.pdw_least.specs.Log.{IsBelow, IsEntry, bounds_after, is_same_made, none_before, put}
+use Rattle.pdw_least.specs.States.{IsWorking, bound_here, is_lower, lowered_log, lowered_row, put_at}
 use Rattle.pdw_least.specs.declared.entry.Entry.{Entry}
 
 pub after-more : (log : List Entry) (entry : Entry) → bounds_after (log ++ entry ∷ []) ≡ put (bounds_after log) entry
@@ -50,6 +48,10 @@ placed test (key ∷ keys) is = by (test key) is (placed test keys)
     by : (passes : Bool) → (passes || list_any test keys) ≡ true → (list_any test keys ≡ true → (place : ℕ) × (place_among test keys ≡ Some place)) → (place : ℕ) × ((if passes then Some 0 else option_map suc (place_among test keys)) ≡ Some place)
     by true is rest = (0, refl)
     by false is rest = (let found = rest is in (suc found.0, ap (option_map suc) found.1))
+
+lower-below : (cost : ℕ) (bound : Option ℕ) → is_lower cost bound ≡ true → IsBelow cost bound
+lower-below cost None is = tt
+lower-below cost (Some bound) is = ltb-true cost bound is
 
 -- ---- what an entry changes
 
@@ -87,13 +89,13 @@ module _ (groups : List Group) (costs : Costs) (lists : List (List (Option ℕ))
   abbrev Working : List (Option ℕ) → List Entry → Type 0
   Working = IsWorking groups costs lists number group
 
-  working-more : (row : List (Option ℕ)) (log : List Entry) → Working row log → (p : Prop) (w : Way) (cost : ℕ) → IsEntry groups costs (bounds_after log) (entry number p w cost)
+  working-more : (row : List (Option ℕ)) (log : List Entry) → Working row log → (p : Prop) (w : Way) (cost : ℕ) → IsEntry groups costs (bounds_after log) (entry number p w cost) → IsBelow cost (bounds_after log (here number p))
       → list_any (is_same p) (properties_of group.interesting) ≡ true
       → Working (put_at (place_among (is_same p) (properties_of group.interesting)) cost row) (log ++ entry number p w cost ∷ [])
-  working-more row log working p w cost is there =
+  working-more row log working p w cost is below there =
       let found = placed (is_same p) (properties_of group.interesting) there in
       subst (λ (place : Option ℕ). Working (put_at place cost row) (log ++ entry number p w cost ∷ [])) (sym found.1) (record {
-        is_log = log-more groups costs none_before log (entry number p w cost) working.is_log is;
+        is_log = log-more groups costs none_before log (entry number p w cost) working.is_log is below;
         mine = λ q. bound-set group.interesting row working.size p found.0 cost found.1 q
             ∙ ap (λ (b : Option ℕ). if is_same p q then Some cost else b) (working.mine q)
             ∙ sym (put-mine (bounds_after log) number p w cost q)
@@ -128,11 +130,11 @@ module _ (groups : List Group) (costs : Costs) (lists : List (List (Option ℕ))
 
     pub lowered-working : (offer : Option Offer) → IsFit offer → Working (lowered_row group.interesting p offer row) (new_log offer)
     lowered-working None fit = working
-    lowered-working (Some o) fit = by (is_lower o.cost bound_row)
+    lowered-working (Some o) fit = by (is_lower o.cost bound_row) refl
       where
-        by : (test : Bool) → Working (if test then put_at (place_among (is_same p) (properties_of group.interesting)) o.cost row else row) (if test then log ++ entry number p o.way o.cost ∷ [] else log)
-        by true = working-more row log working p o.way o.cost fit.0 fit.1
-        by false = working
+        by : (test : Bool) → is_lower o.cost bound_row ≡ test → Working (if test then put_at (place_among (is_same p) (properties_of group.interesting)) o.cost row else row) (if test then log ++ entry number p o.way o.cost ∷ [] else log)
+        by true lower = working-more row log working p o.way o.cost fit.0 (lower-below o.cost (before p) (lower-here o.cost true lower)) fit.1
+        by false other = working
 
     pub lowered-falls : (offer : Option Offer) (made : Made) → AtMost (bounds_after (new_log offer) made) (bounds_after log made)
     lowered-falls None made = at_most-refl (bounds_after log made)

@@ -1,20 +1,19 @@
 -- The table of the groups that are done: at first, after one more group, and at the end.
-use Rattle.std.proofs.Common.{◌≡◌, ◌==◌, ◌≤◌, ◌<◌, ◌+◌, ◌*◌, ◌^◌, ℕ, zero, suc, cond, Bool, true, false, true≢false, ◌⊎◌, inl, inr, List, [], ◌∷◌, ◌++◌, length, map, take, zip, Option, Some, None, refl, sym, ap, ap₂, subst, ◌∙◌, arith, if◌then◌else◌}
-use Rattle.std.proofs.lemmas.Bool.{and_parts, eqb-true, eqb-false, ne_eqb, or_cases}
+use Rattle.std.proofs.Common.{◌≡◌, ◌==◌, ◌≤◌, ◌<◌, ◌+◌, ◌*◌, ◌^◌, ℕ, zero, suc, cond, Bool, true, false, true≢false, ◌⊎◌, inl, inr, List, [], ◌∷◌, ◌++◌, length, take, zip, Option, Some, None, refl, sym, ap, ap₂, subst, ◌∙◌, arith}
+use Rattle.std.proofs.lemmas.Bool.{eqb-false, ne_eqb, or_cases}
 use Rattle.std.proofs.lemmas.Option.{slice_get_past, slice_get_within}
 use Rattle.std.specs.List.{AllByRecursion, list_any, slice_get}
 use Rattle.std.specs.Map.{lookup}
 use Rattle.std.specs.Option.{IfSome, option_and_then}
-use Rattle.pdw_base.specs.declared.schema.ColId.{ColId}
 use Rattle.pdw_groups.specs.declared.group.Group.{Group}
 use Rattle.pdw_groups.specs.declared.key.GroupId.{GroupId}
 use Rattle.pdw_move.specs.Move.{property_before}
 use Rattle.pdw_move.specs.declared.kinds.Prop.{Prop}
 use Rattle.pdw_move.specs.declared.kinds.Prop.TheVariants.{Spread, Replicated, Single, Control}
-use Rattle.pdw_rules.specs.Rules.{is_same, may_have, properties_of}
+use Rattle.pdw_rules.specs.Rules.{is_same, properties_of}
 use Rattle.pdw_ways.proofs.LeastCosts.{least-costs}
 use Rattle.pdw_ways.proofs.Same.{group-alike, never, same-alike}
-use Rattle.pdw_ways.specs.Bounds.{AreLeast, AreSmall, AreValid, AtMost, Bound, HaveShape, IsSmall, IsUnder, bound_among, bound_by, bound_in, plus, sum_of}
+use Rattle.pdw_ways.specs.Bounds.{AreLeast, AreSmall, AreValid, AtMost, Bound, HaveShape, IsSmall, bound_among, bound_by, bound_in, plus, sum_of}
 use Rattle.pdw_ways.specs.Costing.{most_of_a_move}
 use Rattle.pdw_ways.specs.Offers.{IsInnerWay, IsLocalWay, is_local}
 use Rattle.pdw_ways.specs.Shape.{HasPlan}
@@ -25,9 +24,9 @@ use Rattle.pdw_ways.specs.declared.way.Way.TheVariants as way
 use Rattle.pdw_least.proofs.Limits.{beyond-either, local-sums, one-most, within-more}
 use Rattle.pdw_least.proofs.Logs.{log-plans}
 use Rattle.pdw_least.proofs.Steps.{here, listed-way}
-use Rattle.pdw_least.specs.Log.{bounds_after, none_before}
+use Rattle.pdw_least.specs.Log.{bounds_after}
 use Rattle.pdw_least.specs.Premises.{AreLight, AreOrdered, AreWithin, IsWithin, limit_of, limit_of_operators}
-use Rattle.pdw_least.specs.States.{AreUnderInner, HasRoom, IsInnerGoing, IsLocalDone, IsTable, IsUnderWays, IsWorking, beyond, blank_row, bound_here, one, reached}
+use Rattle.pdw_least.specs.States.{AreUnderInner, HasRoom, IsInnerGoing, IsLocalDone, IsTable, IsUnderWays, beyond, blank_row, bound_here, reached}
 use Rattle.pdw_least.specs.declared.entry.Entry.{Entry}
 
 -- ---- bounds that fit

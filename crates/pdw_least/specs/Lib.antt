@@ -6,6 +6,8 @@ pub mod Premises
 pub mod States
 -- a table of least costs
 pub mod Table
+-- the runs of moves and free changes of a plan
+pub mod Runs
 -- plans that are read off a log
 pub mod Built
 -- under which condition each group's rows can be brought to one node

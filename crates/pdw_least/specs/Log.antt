@@ -1,5 +1,5 @@
 -- The log of a search for least plans: each entry is a way to make rows that costs less than what was known before.
-use Rattle.std.specs.Prelude.{◌≡◌, ◌==◌, ◌&&◌, ◌≤◌, ⊤, ℕ, Bool, true, List, [], ◌∷◌, fold, Option, Some, None, if◌then◌else◌}
+use Rattle.std.specs.Prelude.{◌≡◌, ◌==◌, ◌&&◌, ◌<◌, ⊤, ℕ, Bool, true, List, [], ◌∷◌, fold, Option, Some, None, if◌then◌else◌}
 use Rattle.std.specs.List.{slice_get}
 use Rattle.pdw_groups.specs.declared.group.Group.{Group}
 use Rattle.pdw_rules.specs.Rules.{is_same}
@@ -25,6 +25,11 @@ bounds_from bound log = fold put bound log
 abbrev pub bounds_after : List Entry → Bound
 bounds_after log = bounds_from none_before log
 
+-- each cost is below unreachable
+abbrev pub IsBelow : ℕ → Option ℕ → Type 0
+IsBelow cost None = ⊤
+IsBelow cost (Some bound) = cost < bound
+
 module _ (groups : List Group) (costs : Costs) where
   -- an entry is a way whose sum by the bounds before it is its cost
   pub record IsEntry (bound : Bound) (entry : Entry) : Type 0 where
@@ -33,9 +38,10 @@ module _ (groups : List Group) (costs : Costs) where
     pub allowed : is_way group entry.made.prop entry.way ≡ true
     pub total : sum_of costs bound entry.made.group entry.way ≡ Some entry.cost
 
+  -- each entry costs less than was known before for what it makes
   abbrev pub IsLogFrom : Bound → List Entry → Type 0
   IsLogFrom bound [] = ⊤
-  IsLogFrom bound (entry ∷ log) = IsEntry bound entry × IsLogFrom (put bound entry) log
+  IsLogFrom bound (entry ∷ log) = IsEntry bound entry × IsBelow entry.cost (bound entry.made) × IsLogFrom (put bound entry) log
 
   abbrev pub IsLog : List Entry → Type 0
   IsLog log = IsLogFrom none_before log

@@ -1,10 +1,12 @@
 //! Least plans, read off the log of the search.
 
 ghost use Rattle.std.specs.Prelude.{◌≡◌, ◌<◌, [], ◌∷◌, IfOk, IsSome, if◌then◌else◌};
+ghost use Rattle.std.specs.List.{AllByRecursion};
 ghost use Rattle.pdw_ways.specs.declared.plan.Plan.TheVariants as plans;
-ghost use Rattle.pdw_least.specs.Built.{IsBuilt, IsLast, IsLastIn};
+ghost use Rattle.pdw_least.specs.Built.{IsBuilt, IsLast, IsLastIn, IsReadOff};
 ghost use Rattle.pdw_least.specs.Log.{IsLog, bounds_after, is_same_made as same_made};
 ghost use Rattle.pdw_least.specs.Premises.{costs_of};
+ghost use Rattle.pdw_least.specs.Runs.{HasFewNodes, HasShortRuns, IsWithinFour, runs_of};
 
 use crate::{Entry, Search, Table};
 use pdw_base::NoMemory;
@@ -119,7 +121,7 @@ impl Search<'_> {
     fn plan_of(&self, alloc: Global, log: &[Entry], made: Made) -> Result<Plan, NoMemory>
         requires log { IsLog self.now.groups.now (costs_of self.now.costing.now) log.now }
         requires reached { IsSome (bounds_after log.now made) }
-        ensures { IfOk result (λ plan. IsBuilt self.now.groups.now (costs_of self.now.costing.now) plan made (bounds_after log.now made)) }
+        ensures { IfOk result (λ plan. IsReadOff self.now.groups.now (costs_of self.now.costing.now) log.now plan made) }
     {
         let last = self.last(log, made);
         let before = &log[..last.number];
@@ -161,11 +163,16 @@ impl Search<'_> {
         }
     }
 
-    /// A plan for the rows of a group under a property, of exactly the cost that the table has.
+    /// A plan for the rows of a group under a property, of exactly the cost that the table has. No property occurs twice in a
+    /// run of moves and free changes at one group, so a run has at most four of them, and the plan at most five nodes for each
+    /// scan and operator.
     pub fn build(&self, alloc: Global, table: &Table, made: Made) -> Result<Plan, NoMemory>
         requires log { IsLog self.now.groups.now (costs_of self.now.costing.now) table.now.log }
         requires reached { IsSome (bounds_after table.now.log made) }
-        ensures { IfOk result (λ plan. IsBuilt self.now.groups.now (costs_of self.now.costing.now) plan made (bounds_after table.now.log made)) }
+        ensures plan { IfOk result (λ plan. IsBuilt self.now.groups.now (costs_of self.now.costing.now) plan made (bounds_after table.now.log made)) }
+        ensures runs { IfOk result (λ plan. HasShortRuns plan) }
+        ensures steps { IfOk result (λ plan. AllByRecursion IsWithinFour (runs_of plan)) }
+        ensures few { IfOk result (λ plan. HasFewNodes self.now.groups.now (costs_of self.now.costing.now) plan) }
     {
         self.plan_of(alloc, table.log.as_slice(), made)
     }

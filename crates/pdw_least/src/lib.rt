@@ -9,5 +9,5 @@ mod row;
 mod search;
 
 pub use entry::Entry;
-pub use laws::each_group_is_reached;
+pub use laws::{each_group_is_reached, plans_have_few_operators, short_runs_have_few_nodes};
 pub use search::{Search, Table};

@@ -1,4 +1,4 @@
-use Rattle.std.proofs.Common.{◌||◌, ◌∷◌, ◌+◌, [], Bool, List, sym, subst, take}
+use Rattle.std.proofs.Common.{◌||◌, ◌+◌, Bool, List, sym, subst, take}
 use Rattle.std.proofs.lemmas.List.{take_more}
 use Rattle.pdw_move.specs.declared.kinds.Prop.{Prop}
 use Rattle.pdw_least.proofs.Tables.{row-small}
