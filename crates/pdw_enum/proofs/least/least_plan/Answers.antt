@@ -1,0 +1,13 @@
+use Rattle.pdw_least.specs.Premises.{costs_of}
+use Rattle.pdw_enum.proofs.LeastPlans.{built-least, built-query, some-groups}
+use Rattle.pdw_enum.proofs.least.least_plan.Goals as goal
+
+pub returns-clause-query : goal.returns-clause-query
+returns-clause-query c =
+    built-query c.args.search.now.groups.now (costs_of c.args.search.now.costing.now) c.in_ok-table.table.lists c.in_ok-table.table.log c.in_ok-table.ensures c.in_ok-made.made c.in_ok-made.ensures c.in_ok-plan.plan c.in_ok-plan.ensures
+    (some-groups c.args.search.now.groups.now c.requires.rooted)
+
+pub returns-clause-least : goal.returns-clause-least
+returns-clause-least c =
+    built-least c.args.search.now.groups.now (costs_of c.args.search.now.costing.now) c.in_ok-table.table.lists c.in_ok-table.table.log c.in_ok-table.ensures c.in_ok-made.made c.in_ok-made.ensures c.in_ok-plan.plan c.in_ok-plan.ensures
+    c.requires.premises.light (c.tight_bounds_leave_none_cheaper.ensures c.args.search.now.groups.now (costs_of c.args.search.now.costing.now) c.in_ok-table.table.lists)
