@@ -87,11 +87,11 @@ impl AtHand<'_> {
         ensures { Best (IsInnerWay self.now.group.now wanted) (sum_of (costs_of self.now.costing.now) (row_bound self.now.group.now.interesting bounds.now) self.now.number) result }
     {
         let row = Row {
-            number: self.number,
             group: self.group,
             bounds,
         };
-        inner_offer(&row, self.costing, wanted)
+        let reckoning = self.costing.at(self.number);
+        inner_offer(&row, &reckoning, wanted)
     }
 
     // Looks at the moves and free changes that give a property, and tells whether its bound fell.

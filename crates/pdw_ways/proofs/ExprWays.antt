@@ -1,6 +1,6 @@
 -- The ways of expressions that are tried are all of them that a sum allows.
-use Rattle.std.proofs.Common.{◌≡◌, ◌==◌, ◌+◌, ℕ, Bool, true, false, ◌&&◌, ◌||◌, ◌⊎◌, inl, inr, List, [], ◌∷◌, map, zip, fold, cond, Option, Some, None, refl, sym, ap, subst, ◌∙◌, arith, if◌then◌else◌}
-use Rattle.std.proofs.lemmas.Bool.{and_parts, or_cases}
+use Rattle.std.proofs.Common.{◌≡◌, ◌==◌, ℕ, Bool, true, false, ◌&&◌, ◌||◌, ◌⊎◌, inl, inr, List, [], ◌∷◌, zip, fold, cond, Option, Some, None, refl, sym, ap, subst, ◌∙◌, arith}
+use Rattle.std.proofs.lemmas.Bool.{and_parts}
 use Rattle.std.specs.List.{list_any, slice_get}
 use Rattle.std.specs.Map.{lookup}
 use Rattle.std.specs.Option.{option_and_then}
@@ -15,11 +15,11 @@ use Rattle.pdw_move.specs.declared.kinds.Prop.TheVariants as prop
 use Rattle.pdw_rules.proofs.Listed.{listed}
 use Rattle.pdw_rules.specs.Rules.{binary_rule, is_same, leaf_rule, local_rule, may_have, properties_of, unary_rule}
 use Rattle.pdw_ways.proofs.Improves.{Among, Improves, any-among, among-any, best-from-none, improves-both, improves-fold, improves-if, improves-like, improves-nothing, improves-way}
-use Rattle.pdw_ways.proofs.JoinWays.{IsJoin, and-both, joins-improve, sides}
-use Rattle.pdw_ways.proofs.Same.{column-alike, group-alike, group-itself, never, same-alike, same-itself}
+use Rattle.pdw_ways.proofs.JoinWays.{IsJoin, and-both, joins-improve}
+use Rattle.pdw_ways.proofs.Same.{column-alike, group-alike, group-itself, never}
 use Rattle.pdw_ways.specs.Bounds.{Bound, bound_among, bound_by, bound_in, plus, sum_of}
-use Rattle.pdw_ways.specs.Offers.{Best, IsLocalWay, IsWay, is_local}
-use Rattle.pdw_ways.specs.Search.{interesting_at, interesting_of, with_child, with_children, with_expr, with_hashed, with_leaf, with_pair, with_under}
+use Rattle.pdw_ways.specs.Offers.{Best, IsLocalWay}
+use Rattle.pdw_ways.specs.Search.{interesting_at, interesting_of, with_child, with_children, with_expr, with_leaf, with_pair, with_under}
 use Rattle.pdw_ways.specs.Ways.{Costs, are_groups_of, operates}
 use Rattle.pdw_ways.specs.declared.made.Made.{Made}
 use Rattle.pdw_ways.specs.declared.offer.Offer.{Offer}

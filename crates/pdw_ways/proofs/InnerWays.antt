@@ -1,5 +1,5 @@
 -- The moves and free changes that are tried are all of them that a sum allows.
-use Rattle.std.proofs.Common.{◌≡◌, ◌==◌, ◌+◌, ℕ, Bool, true, false, true≢false, ◌&&◌, ◌⊎◌, inl, inr, List, [], ◌∷◌, fold, Option, Some, None, refl, sym, ap, subst, ◌∙◌, arith, if◌then◌else◌}
+use Rattle.std.proofs.Common.{◌≡◌, ◌==◌, ℕ, Bool, true, false, true≢false, ◌⊎◌, inl, inr, List, [], ◌∷◌, Option, Some, None, refl, sym, ap, subst, ◌∙◌, arith}
 use Rattle.std.proofs.lemmas.Bool.{and_parts}
 use Rattle.std.specs.List.{list_any}
 use Rattle.pdw_base.specs.declared.schema.ColId.{ColId}
@@ -12,13 +12,14 @@ use Rattle.pdw_move.specs.declared.kinds.Prop.{Prop}
 use Rattle.pdw_move.specs.declared.kinds.Prop.TheVariants as prop
 use Rattle.pdw_rules.specs.Rules.{is_free, is_same, may_have}
 use Rattle.pdw_ways.proofs.ExprWays.{no-bound}
-use Rattle.pdw_ways.proofs.Improves.{Among, Improves, any-among, best-from-none, best-like, improves-both, improves-fold, improves-like, improves-way}
+use Rattle.pdw_ways.proofs.Improves.{Among, Improves, any-among, best-from-none, improves-both, improves-fold, improves-like, improves-way}
 use Rattle.pdw_ways.proofs.JoinWays.{and-both}
 use Rattle.pdw_ways.proofs.Same.{column-alike, never, same-alike, same-itself}
 use Rattle.pdw_ways.specs.Bounds.{bound_by, plus, row_bound, sum_of}
-use Rattle.pdw_ways.specs.Offers.{Best, IsInnerWay, IsWay}
+use Rattle.pdw_ways.specs.Costing.{AgreeAt}
+use Rattle.pdw_ways.specs.Offers.{Best, IsInnerWay}
 use Rattle.pdw_ways.specs.Search.{inner_to, with_free, with_move}
-use Rattle.pdw_ways.specs.Ways.{Costs, is_moved, is_way}
+use Rattle.pdw_ways.specs.Ways.{Costs, is_moved}
 use Rattle.pdw_ways.specs.declared.offer.Offer.{Offer}
 use Rattle.pdw_ways.specs.declared.way.Way.{Way}
 use Rattle.pdw_ways.specs.declared.way.Way.TheVariants as way
@@ -45,7 +46,7 @@ moved-tried interesting (move.Trim c) = inr refl
 moved-tried interesting move.FromControl = inl (inr refl)
 moved-tried interesting move.FromSingle = inr refl
 
-module _ (group : Group) (bounds : List (Option ℕ)) (costs : Costs) (number : GroupId) where
+module _ (group : Group) (bounds : List (Option ℕ)) (adds : Move → ℕ) (costs : Costs) (number : GroupId) (agree : AgreeAt costs number adds) where
   abbrev sum : Way → Option ℕ
   sum = sum_of costs (row_bound group.interesting bounds) number
 
@@ -59,8 +60,8 @@ module _ (group : Group) (bounds : List (Option ℕ)) (costs : Costs) (number : 
       by None = refl
       by (Some b) = ap (λ (n : ℕ). Some n) (omega arith)
 
-  sum-moved : (mv : Move) → sum (way.Moved mv) ≡ plus (bound (property_before mv)) (Some (costs number mv))
-  sum-moved mv = by (bound (property_before mv))
+  sum-moved : (mv : Move) → sum (way.Moved mv) ≡ plus (bound (property_before mv)) (Some (adds mv))
+  sum-moved mv = by (bound (property_before mv)) ∙ ap (λ (added : ℕ). plus (bound (property_before mv)) (Some added)) (agree mv)
     where
       by : (b : Option ℕ) → plus (plus b (Some 0)) (Some (costs number mv)) ≡ plus b (Some (costs number mv))
       by None = refl
@@ -107,18 +108,18 @@ module _ (group : Group) (bounds : List (Option ℕ)) (costs : Costs) (number : 
 
   -- ---- the tries
 
-  move-improves : (best : Option Offer) (mv : Move) → Improves sum (λ w. w ≡ way.Moved mv) best (with_move bound costs number best mv)
+  move-improves : (best : Option Offer) (mv : Move) → Improves sum (λ w. w ≡ way.Moved mv) best (with_move bound adds best mv)
   move-improves best mv = improves-way sum best (way.Moved mv) _ (sum-moved mv)
 
   free-improves : (best : Option Offer) (p : Prop) → Improves sum (λ w. w ≡ way.Free p) best (with_free bound best p)
   free-improves best p = improves-way sum best (way.Free p) _ (sum-free p)
 
-  inner-improves : (made : Prop) → Improves sum (IsTried group.interesting made) None (inner_to bound costs number group.interesting made)
+  inner-improves : (made : Prop) → Improves sum (IsTried group.interesting made) None (inner_to bound adds group.interesting made)
   inner-improves prop.Spread = improves-fold sum (λ (c : ColId) (w : Way). w ≡ way.Free (prop.Hash c)) (λ best c. with_free bound best (prop.Hash c)) (λ best c. free-improves best (prop.Hash c)) None group.interesting
   inner-improves (prop.Hash c) = improves-both sum (move-improves None (move.Shuffle c)) (move-improves _ (move.Trim c))
   inner-improves prop.Replicated = improves-both sum (improves-both sum (move-improves None move.Broadcast) (move-improves _ move.FromControl)) (move-improves _ move.FromSingle)
   inner-improves prop.Single = improves-both sum (move-improves None move.ToSingle) (free-improves _ prop.Replicated)
   inner-improves prop.Control = move-improves None move.ToControl
 
-  pub inner-best : (made : Prop) → may_have group.interesting made ≡ true → Best (IsInnerWay group made) sum (inner_to bound costs number group.interesting made)
+  pub inner-best : (made : Prop) → may_have group.interesting made ≡ true → Best (IsInnerWay group made) sum (inner_to bound adds group.interesting made)
   inner-best made has = best-from-none sum _ (improves-like sum (inner-tried made) (tried-inner made has) (inner-improves made))

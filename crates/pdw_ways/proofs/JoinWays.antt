@@ -1,7 +1,6 @@
 -- The joins that are tried are those that the rule allows.
-use Rattle.std.proofs.Common.{◌≡◌, ◌==◌, ℕ, Bool, true, false, not, true≢false, ◌&&◌, ◌||◌, ◌⊎◌, inl, inr, List, [], ◌∷◌, fold, Option, Some, None, refl, sym, ap, ap₂, subst, ◌∙◌}
+use Rattle.std.proofs.Common.{◌≡◌, ◌==◌, ℕ, Bool, true, false, not, ◌&&◌, ◌||◌, ◌⊎◌, inl, inr, List, [], ◌∷◌, fold, Option, refl, sym, ap₂, subst, ◌∙◌}
 use Rattle.std.proofs.lemmas.Bool.{and_parts, or_cases}
-use Rattle.std.specs.List.{list_any}
 use Rattle.pdw_base.specs.declared.schema.ColId.{ColId}
 use Rattle.pdw_expr.specs.declared.agg.JoinKind.{JoinKind}
 use Rattle.pdw_expr.specs.declared.cond.Cond.{Cond}
@@ -10,10 +9,10 @@ use Rattle.pdw_groups.specs.declared.key.GroupId.{GroupId}
 use Rattle.pdw_move.specs.declared.kinds.Prop.{Prop}
 use Rattle.pdw_move.specs.declared.kinds.Prop.TheVariants as prop
 use Rattle.pdw_rules.specs.Rules.{equates, hashes_rule, is_divided, is_full, is_inner, is_pair, is_same, is_whole, join_rule, matched_rule, matches_on, one_site_rule, replicated_left_rule, replicated_right_rule}
-use Rattle.pdw_ways.proofs.Improves.{Among, Improves, any-among, among-any, improves-both, improves-fold, improves-if, improves-like, improves-nothing, improves-way, or-left, or-right}
+use Rattle.pdw_ways.proofs.Improves.{Among, Improves, any-among, improves-both, improves-fold, improves-if, improves-like, improves-nothing, improves-way, or-left, or-right}
 use Rattle.pdw_ways.proofs.Same.{column-alike, column-itself, never, same-alike, same-itself}
 use Rattle.pdw_ways.specs.Bounds.{Bound, plus}
-use Rattle.pdw_ways.specs.Search.{with_columns, with_conjunct, with_hashes, with_join, with_left_replicated, with_one_site, with_right_replicated}
+use Rattle.pdw_ways.specs.Search.{with_columns, with_conjunct, with_hashes, with_join, with_left_replicated, with_right_replicated}
 use Rattle.pdw_ways.specs.declared.made.Made.{Made}
 use Rattle.pdw_ways.specs.declared.offer.Offer.{Offer}
 use Rattle.pdw_ways.specs.declared.way.Way.{Way}

@@ -1,12 +1,11 @@
 -- Valid bounds that plans cost are least, and tight ones leave no cheaper plan.
-use Rattle.std.proofs.Common.{◌≡◌, ◌≤◌, ◌<◌, ℕ, Bool, true, false, List, [], ◌∷◌, zip, Option, Some, None, refl, sym, ap, subst, ◌∙◌, arith, fold, cond, nat_lt, if◌then◌else◌}
+use Rattle.std.proofs.Common.{◌≡◌, ℕ, Bool, true, false, List, [], ◌∷◌, zip, Option, Some, None, refl, sym, subst, arith, fold, cond, nat_lt, if◌then◌else◌}
 use Rattle.std.proofs.lemmas.Bool.{ltb-true, ltb-false}
 use Rattle.std.specs.List.{slice_get}
 use Rattle.std.specs.Map.{lookup}
 use Rattle.std.specs.Option.{IfSome, option_and_then}
 use Rattle.pdw_groups.specs.declared.group.Group.{Group}
 use Rattle.pdw_groups.specs.declared.key.GroupId.{GroupId}
-use Rattle.pdw_move.specs.declared.kinds.Prop.{Prop}
 use Rattle.pdw_rules.specs.Rules.{is_same, properties_of}
 use Rattle.pdw_ways.proofs.Numbers.{at_most-refl, at_most-trans}
 use Rattle.pdw_ways.proofs.Under.{under-plans}

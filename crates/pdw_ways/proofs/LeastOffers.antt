@@ -1,27 +1,28 @@
 -- The offers that are found are the cheapest.
-use Rattle.std.proofs.Common.{◌≡◌, ◌==◌, ℕ, Bool, true, false, true≢false, ◌&&◌, ◌⊎◌, inl, inr, List, [], ◌∷◌, fold, Option, Some, None, refl, sym, ap, ap₂, subst, ◌∙◌, if◌then◌else◌}
+use Rattle.std.proofs.Common.{◌≡◌, ℕ, Bool, true, false, true≢false, ◌⊎◌, inl, inr, List, fold, Option, Some, None, refl, sym, ap, ap₂, subst, ◌∙◌, if◌then◌else◌}
 use Rattle.std.proofs.lemmas.Bool.{and_parts}
 use Rattle.std.specs.List.{slice_get}
 use Rattle.pdw_groups.specs.declared.group.Group.{Group}
 use Rattle.pdw_groups.specs.declared.key.GroupId.{GroupId}
 use Rattle.pdw_move.specs.Move.{property_after, property_before}
+use Rattle.pdw_move.specs.declared.kinds.Move.{Move}
 use Rattle.pdw_move.specs.declared.kinds.Prop.{Prop}
 use Rattle.pdw_rules.specs.Rules.{is_free, is_same, may_have}
 use Rattle.pdw_ways.proofs.ExprWays.{AreSums, exprs-best, no-bound-in, sum-one, sum-two}
 use Rattle.pdw_ways.proofs.Improves.{best-like, best-of-two}
 use Rattle.pdw_ways.proofs.InnerWays.{inner-best}
-use Rattle.pdw_ways.proofs.Same.{never, same-alike}
-use Rattle.pdw_ways.specs.Bounds.{AreSmall, AtMost, Bound, IsSmall, bound_among, bound_by, bound_in, plus, row_bound, sum_of}
+use Rattle.pdw_ways.proofs.Same.{same-alike}
+use Rattle.pdw_ways.specs.Bounds.{AreSmall, AtMost, IsSmall, bound_by, bound_in, plus, row_bound, sum_of}
+use Rattle.pdw_ways.specs.Costing.{AgreeAt}
 use Rattle.pdw_ways.specs.Offers.{Best, IsInnerWay, IsLocalWay, IsWay, is_local}
 use Rattle.pdw_ways.specs.Search.{cheaper, inner_to, inner_within, local_within, with_expr}
 use Rattle.pdw_ways.specs.Ways.{Costs, is_moved}
-use Rattle.pdw_ways.specs.declared.made.Made.{Made}
 use Rattle.pdw_ways.specs.declared.offer.Offer.{Offer}
 use Rattle.pdw_ways.specs.declared.way.Way.{Way}
 use Rattle.pdw_ways.specs.declared.way.Way.TheVariants as way
 
 -- nothing is made under a property that a group may not have
-no-way : (group : Group) (made : Prop) → may_have group.interesting made ≡ false → (w : Way) → IsWay group made w → ⊥
+pub no-way : (group : Group) (made : Prop) → may_have group.interesting made ≡ false → (w : Way) → IsWay group made w → ⊥
 no-way group made none way.Scan is = true≢false (sym ((and_parts (may_have group.interesting made) _ is).0) ∙ none)
 no-way group made none (way.One child) is = true≢false (sym ((and_parts (may_have group.interesting made) _ is).0) ∙ none)
 no-way group made none (way.Two left right) is = true≢false (sym ((and_parts (may_have group.interesting made) _ is).0) ∙ none)
@@ -44,11 +45,11 @@ local-best groups lists group made costs number = by (may_have group.interesting
     by true has = exprs-best groups (bound_in groups lists) (sum_of costs (bound_in groups lists) number) sums made group has
     by false none = best-of-none _ _ (λ w is. no-way group made none w is.1)
 
-pub inner-best-of : (group : Group) (bounds : List (Option ℕ)) (made : Prop) (costs : Costs) (number : GroupId) → Best (IsInnerWay group made) (sum_of costs (row_bound group.interesting bounds) number) (inner_within group bounds costs number made)
-inner-best-of group bounds made costs number = by (may_have group.interesting made) refl
+pub inner-best-of : (group : Group) (bounds : List (Option ℕ)) (made : Prop) (adds : Move → ℕ) (costs : Costs) (number : GroupId) → AgreeAt costs number adds → Best (IsInnerWay group made) (sum_of costs (row_bound group.interesting bounds) number) (inner_within group bounds adds made)
+inner-best-of group bounds made adds costs number agree = by (may_have group.interesting made) refl
   where
-    by : (test : Bool) → may_have group.interesting made ≡ test → Best (IsInnerWay group made) (sum_of costs (row_bound group.interesting bounds) number) (if test then inner_to (bound_by group.interesting bounds) costs number group.interesting made else None)
-    by true has = inner-best group bounds costs number made has
+    by : (test : Bool) → may_have group.interesting made ≡ test → Best (IsInnerWay group made) (sum_of costs (row_bound group.interesting bounds) number) (if test then inner_to (bound_by group.interesting bounds) adds group.interesting made else None)
+    by true has = inner-best group bounds adds costs number agree made has
     by false none = best-of-none _ _ (λ w is. no-way group made none w is.1)
 
 -- ---- all ways of a group
@@ -95,9 +96,9 @@ module _ (groups : List Group) (lists : List (List (Option ℕ))) (costs : Costs
     attained = (best.attained.0, sym (inner-alike list kept offer.way best.attained.0.0) ∙ best.attained.1);
   }
 
-  pub least-with : (list : List (Option ℕ)) → slice_get lists number.0 ≡ Some list → Best (IsWay group made) sum (cheaper local (inner_within group list costs number made))
-  least-with list kept = best-like sum _ (either-kind-or list) (some-kind group made)
-      (best-of-two sum local (inner_within group list costs number made) (local-best groups lists group made costs number) (alike-best list kept _ (inner-best-of group list made costs number)))
+  pub least-with : (adds : Move → ℕ) → AgreeAt costs number adds → (list : List (Option ℕ)) → slice_get lists number.0 ≡ Some list → Best (IsWay group made) sum (cheaper local (inner_within group list adds made))
+  least-with adds agree list kept = best-like sum _ (either-kind-or list) (some-kind group made)
+      (best-of-two sum local (inner_within group list adds made) (local-best groups lists group made costs number) (alike-best list kept _ (inner-best-of group list made adds costs number agree)))
     where
       either-kind-or : (list : List (Option ℕ)) (w : Way) → IsWay group made w → (IsLocalWay group made w ⊎ IsInnerWay group made w) ⊎ (sum w ≡ None)
       either-kind-or list w is = inl (either-kind group made w is)
@@ -124,12 +125,12 @@ module _ (groups : List Group) (lists : List (List (Option ℕ))) (costs : Costs
   same-group : found ≡ group
   same-group = let both : Some found ≡ Some group = at ∙ there in cc
 
-  pub least-found : (list bounds : List (Option ℕ)) (local inner result : Option Offer) → Some list ≡ slice_get lists number.0 → bounds ≡ list → local ≡ local_within (bound_in groups lists) groups found made → inner ≡ inner_within found bounds costs number made
+  pub least-found : (adds : Move → ℕ) → AgreeAt costs number adds → (list bounds : List (Option ℕ)) (local inner result : Option Offer) → Some list ≡ slice_get lists number.0 → bounds ≡ list → local ≡ local_within (bound_in groups lists) groups found made → inner ≡ inner_within found bounds adds made
       → result ≡ cheaper local inner → Best (IsWay group made) (sum_of costs (bound_in groups lists) number) result
-  least-found list bounds local inner result kept same one two is =
+  least-found adds agree list bounds local inner result kept same one two is =
       let first : local ≡ local_within (bound_in groups lists) groups group made = one ∙ ap (λ (g : Group). local_within (bound_in groups lists) groups g made) same-group in
-      let second : inner ≡ inner_within group list costs number made = two ∙ ap (λ (g : Group). inner_within g bounds costs number made) same-group ∙ ap (λ (b : List (Option ℕ)). inner_within group b costs number made) same in
-      subst (Best (IsWay group made) (sum_of costs (bound_in groups lists) number)) (sym (is ∙ ap₂ cheaper first second)) (least-with groups lists costs number group there made list (sym kept))
+      let second : inner ≡ inner_within group list adds made = two ∙ ap (λ (g : Group). inner_within g bounds adds made) same-group ∙ ap (λ (b : List (Option ℕ)). inner_within group b adds made) same in
+      subst (Best (IsWay group made) (sum_of costs (bound_in groups lists) number)) (sym (is ∙ ap₂ cheaper first second)) (least-with groups lists costs number group there made adds agree list (sym kept))
 
   pub least-missing : (local : Option Offer) → None ≡ slice_get lists number.0 → local ≡ local_within (bound_in groups lists) groups found made → Best (IsWay group made) (sum_of costs (bound_in groups lists) number) local
   least-missing local none one =

@@ -1,5 +1,5 @@
 -- The order of numbers and unreachable, and sums in it.
-use Rattle.std.proofs.Common.{◌≡◌, ◌≤◌, ◌+◌, ℕ, List, [], ◌∷◌, Option, Some, None, refl, ap, sym, ◌∙◌, arith}
+use Rattle.std.proofs.Common.{ℕ, Option, Some, None, arith}
 use Rattle.pdw_ways.specs.Bounds.{AtMost, plus}
 
 pub at_most-refl : (bound : Option ℕ) → AtMost bound bound

@@ -1,5 +1,5 @@
 -- Properties that are the same are equal.
-use Rattle.std.proofs.Common.{◌≡◌, ◌==◌, ℕ, Bool, true, false, true≢false, refl, sym, ap, ◌∙◌, eq-eqb}
+use Rattle.std.proofs.Common.{◌≡◌, ◌==◌, ℕ, true, false, true≢false, refl, sym, ap, eq-eqb}
 use Rattle.std.proofs.lemmas.Bool.{eqb-true}
 use Rattle.pdw_base.specs.declared.schema.ColId.{ColId}
 use Rattle.pdw_groups.specs.declared.key.GroupId.{GroupId}

@@ -1,7 +1,7 @@
 -- Valid bounds are at most what each plan costs: by induction over plans, a layer at a time.
-use Rattle.std.proofs.Common.{◌≡◌, ◌==◌, ◌&&◌, ◌+◌, ℕ, Bool, true, false, true≢false, List, [], ◌∷◌, map, Option, Some, None, refl, sym, ap, subst, ◌∙◌, arith, if◌then◌else◌}
-use Rattle.std.proofs.lemmas.Bool.{and_parts, or_cases}
-use Rattle.std.specs.List.{AllByRecursion, list_any, slice_get, sum_by}
+use Rattle.std.proofs.Common.{◌≡◌, ◌&&◌, ◌+◌, ℕ, Bool, true, false, true≢false, List, [], ◌∷◌, map, Option, Some, None, refl, sym, ap, subst, ◌∙◌, arith, if◌then◌else◌}
+use Rattle.std.proofs.lemmas.Bool.{and_parts}
+use Rattle.std.specs.List.{AllByRecursion, list_any, slice_get}
 use Rattle.std.specs.Option.{option_map, option_or}
 use Rattle.pdw_groups.specs.declared.group.Expr.{Expr}
 use Rattle.pdw_groups.specs.declared.group.Group.{Group}
@@ -9,19 +9,17 @@ use Rattle.pdw_groups.specs.declared.key.GroupId.{GroupId}
 use Rattle.pdw_move.specs.Move.{property_after, property_before}
 use Rattle.pdw_move.specs.declared.kinds.Move.{Move}
 use Rattle.pdw_move.specs.declared.kinds.Prop.{Prop}
-use Rattle.pdw_rules.specs.Rules.{is_same, local_rule, may_have}
-use Rattle.pdw_ways.proofs.Numbers.{at_most-plus, at_most-refl, at_most-trans}
+use Rattle.pdw_rules.specs.Rules.{is_same, may_have}
+use Rattle.pdw_ways.proofs.Numbers.{at_most-trans}
 use Rattle.pdw_ways.proofs.PlanFolds.{Inductive, by_plans, fold-free, fold-moved, fold-op, fold-scan}
 use Rattle.pdw_ways.proofs.Same.{same-alike, same-itself}
-use Rattle.pdw_ways.specs.Bounds.{AreValid, AtMost, Bound, cost_of_plan, plus, sum_of, together}
-use Rattle.pdw_ways.specs.Shape.{IsPlan, Shape, cost_in, fault_after, fault_at, made_in, nodes_in, shape_of, shape_step}
+use Rattle.pdw_ways.specs.Bounds.{AreValid, AtMost, Bound, cost_of_plan, plus}
+use Rattle.pdw_ways.specs.Shape.{IsPlan, Shape, fault_after, fault_at, made_in, nodes_in, shape_of, shape_step}
 use Rattle.pdw_ways.specs.Ways.{Costs, are_groups_of, is_at, is_at_some, is_freed, is_moved, is_operated, is_scanned, is_way, operates}
 use Rattle.pdw_ways.specs.declared.made.Made.{Made}
 use Rattle.pdw_ways.specs.declared.plan.Plan.{Plan}
 use Rattle.pdw_ways.specs.declared.plan.Plan.TheOpen.{Plan-F}
-use Rattle.pdw_ways.specs.declared.plan.Plan.TheVariants as plan
 use Rattle.pdw_ways.specs.declared.way.Way.TheVariants as way
-use Rattle.pdw_ways.specs.declared.way.Way.{Way}
 
 -- ---- nodes without a fault
 

@@ -1,5 +1,5 @@
 -- The cheapest way to make rows under a property, found by the rules read backwards: only ways that can give the property are tried.
-use Rattle.std.specs.Prelude.{◌==◌, ◌&&◌, nat_lt, ℕ, Bool, not, List, [], ◌∷◌, fold, Option, Some, None, if◌then◌else◌}
+use Rattle.std.specs.Prelude.{◌&&◌, nat_lt, ℕ, not, List, [], ◌∷◌, fold, Option, Some, None, if◌then◌else◌}
 use Rattle.std.specs.List.{slice_get}
 use Rattle.std.specs.Option.{option_map}
 use Rattle.pdw_base.specs.declared.schema.ColId.{ColId}
@@ -18,7 +18,6 @@ use Rattle.pdw_move.specs.declared.kinds.Prop.{Prop}
 use Rattle.pdw_move.specs.declared.kinds.Prop.TheVariants as prop
 use Rattle.pdw_rules.specs.Rules.{is_divided, is_full, is_inner, is_whole, leaf_rule, matched_rule, may_have, unary_rule}
 use Rattle.pdw_ways.specs.Bounds.{Bound, bound_by, plus}
-use Rattle.pdw_ways.specs.Ways.{Costs}
 use Rattle.pdw_ways.specs.declared.made.Made.{Made}
 use Rattle.pdw_ways.specs.declared.offer.Offer.{Offer}
 use Rattle.pdw_ways.specs.declared.way.Way.{Way}
@@ -127,9 +126,10 @@ module _ (bound : Prop → Option ℕ) where
   abbrev pub with_free : Option Offer → Prop → Option Offer
   with_free best before = with_way best (way.Free before) (bound before)
 
-  module _ (costs : Costs) (number : GroupId) where
+  -- by what moves of the group's rows cost
+  module _ (adds : Move → ℕ) where
     abbrev pub with_move : Option Offer → Move → Option Offer
-    with_move best mv = with_way best (way.Moved mv) (plus (bound (property_before mv)) (Some (costs number mv)))
+    with_move best mv = with_way best (way.Moved mv) (plus (bound (property_before mv)) (Some (adds mv)))
 
     abbrev pub inner_to : List ColId → Prop → Option Offer
     inner_to interesting prop.Spread = fold (λ best c. with_free best (prop.Hash c)) None interesting
@@ -139,5 +139,5 @@ module _ (bound : Prop → Option ℕ) where
     inner_to interesting prop.Control = with_move None move.ToControl
 
 -- the cheapest move or free change of a group, where it may have the property
-abbrev pub inner_within : Group → List (Option ℕ) → Costs → GroupId → Prop → Option Offer
-inner_within group bounds costs number made = if may_have group.interesting made then inner_to (bound_by group.interesting bounds) costs number group.interesting made else None
+abbrev pub inner_within : Group → List (Option ℕ) → (Move → ℕ) → Prop → Option Offer
+inner_within group bounds adds made = if may_have group.interesting made then inner_to (bound_by group.interesting bounds) adds group.interesting made else None

@@ -1,4 +1,4 @@
-//! What moves of the rows of groups cost.
+//! What moves of the rows of all groups cost.
 
 ghost use Rattle.std.specs.Prelude.{◌≡◌, ℕ, ◌<◌, ◌≤◌, ◌^◌};
 ghost use Rattle.pdw_groups.specs.declared.key.GroupId.{GroupId as Number};
@@ -9,9 +9,10 @@ ghost use Rattle.pdw_move.specs.declared.kinds.Move.{Move as MoveValue};
 ghost use Rattle.std.specs.List.{slice_get};
 ghost use Rattle.pdw_ways.specs.Costing.{AreReckoned, costs_by, flow_or_none, most_of_a_move};
 
+use crate::Reckoning;
 use pdw_base::NodeCount;
 use pdw_groups::GroupId;
-use pdw_move::{Constants, Flow, Move, move_cost};
+use pdw_move::{Constants, Flow};
 use sqlite_items::at;
 
 /// What moves in a memo are reckoned with.
@@ -52,25 +53,18 @@ impl Costing<'_> {
         let _count = self.n.get();
     }
 
-    /// What a move adds to the cost of a plan for a group's rows.
-    pub fn move_adds(&self, group: GroupId, mv: Move) -> u128
+    /// What moves of a group's rows are reckoned with.
+    pub fn at(&self, group: GroupId) -> Reckoning<'_>
         requires rows { AreReckoned self.now.flows.now }
-        requires constants { AreInRange self.now.constants.now }
-        ensures value { result ≡ costs_by self.now.n self.now.constants.now self.now.flows.now group mv }
-        ensures most { result < most_of_a_move }
+        ensures flow { result.flow ≡ flow_or_none (slice_get self.now.flows.now group.0) }
+        ensures rows { result.flow.rows ≤ 1000000000000 }
+        ensures nodes { result.n ≡ self.now.n }
+        ensures constants { result.constants.now ≡ self.now.constants.now }
     {
-        self.cost_of(flow_of(self.flows, group), mv)
-    }
-
-    // What a move of a flow costs.
-    #[tactic(auto, using(crate::proofs::CostLemmas::move_small))]
-    fn cost_of(&self, flow: Flow, mv: Move) -> u128
-        requires rows { flow.rows ≤ 1000000000000 }
-        requires constants { AreInRange self.now.constants.now }
-        ensures value { result ≡ cost_of_move self.now.n self.now.constants.now mv flow }
-        ensures most { result < most_of_a_move }
-    {
-        let _count = self.n.get();
-        move_cost(&mv, flow, self.n, self.constants)
+        Reckoning {
+            flow: flow_of(self.flows, group),
+            n: self.n,
+            constants: self.constants,
+        }
     }
 }

@@ -1,25 +1,24 @@
 //! Moves and free changes within a group, by the bounds of its own properties.
 
-ghost use Rattle.std.specs.Prelude.{◌≡◌, ◌<◌, ◌^◌, ℕ, Option, None, fold};
+ghost use Rattle.std.specs.Prelude.{◌≡◌, ◌<◌, ◌≤◌, ◌^◌, ℕ, Option, None, fold};
 ghost use Rattle.pdw_move.specs.Cost.{AreInRange};
 ghost use Rattle.pdw_move.specs.Move.{property_before};
 ghost use Rattle.pdw_move.specs.declared.kinds.Prop.{Prop as Property};
 ghost use Rattle.pdw_move.specs.declared.kinds.Prop.TheVariants.{Hash as ByHash};
 ghost use Rattle.pdw_ways.specs.Bounds.{IsSmall, bound_by};
-ghost use Rattle.pdw_ways.specs.Costing.{AreReckoned, costs_by};
+ghost use Rattle.pdw_ways.specs.Costing.{adds_by};
 ghost use Rattle.pdw_ways.specs.Search as search_of;
 
 use crate::kept::bound_by as bound_for;
 use crate::offer::{sum_of_two, with_way};
-use crate::{Costing, Offer, Way};
+use crate::{Offer, Reckoning, Way};
 use pdw_base::ColId;
-use pdw_groups::{Group, GroupId};
+use pdw_groups::Group;
 use pdw_move::{Move, Prop};
 
 /// The bounds of the properties of one group, in their order.
 #[derive(Drop)]
 pub struct Row<'a> {
-    pub number: GroupId,
     pub group: &'a Group,
     pub bounds: &'a [Option<u128>],
 }
@@ -32,14 +31,14 @@ impl Row<'_> {
         with_way(best, Way::Free(before), bound)
     }
 
-    fn with_move(&self, costing: &Costing<'_>, best: Option<Offer>, mv: Move) -> Option<Offer>
+    fn with_move(&self, reckoning: &Reckoning<'_>, best: Option<Offer>, mv: Move) -> Option<Offer>
         requires small { (p : Property) → IsSmall (bound_by self.now.group.now.interesting self.now.bounds.now p) }
-        requires rows { AreReckoned costing.now.flows.now }
-        requires constants { AreInRange costing.now.constants.now }
-        ensures { result ≡ search_of.with_move (bound_by self.now.group.now.interesting self.now.bounds.now) (costs_by costing.now.n costing.now.constants.now costing.now.flows.now) self.now.number best mv }
+        requires rows { reckoning.now.flow.rows ≤ 1000000000000 }
+        requires constants { AreInRange reckoning.now.constants.now }
+        ensures { result ≡ search_of.with_move (bound_by self.now.group.now.interesting self.now.bounds.now) (adds_by reckoning.now.n reckoning.now.constants.now reckoning.now.flow) best mv }
     {
         let bound = self.small_bound(mv.from());
-        let adds = costing.move_adds(self.number, mv);
+        let adds = reckoning.move_adds(mv);
         with_way(best, Way::Moved(mv), sum_of_two(bound, Some(adds)))
     }
 
@@ -63,28 +62,28 @@ impl Row<'_> {
     }
 
     // The cheapest of the moves and free changes that give a property.
-    pub(crate) fn inner_to(&self, costing: &Costing<'_>, wanted: Prop) -> Option<Offer>
+    pub(crate) fn inner_to(&self, reckoning: &Reckoning<'_>, wanted: Prop) -> Option<Offer>
         requires small { (p : Property) → IsSmall (bound_by self.now.group.now.interesting self.now.bounds.now p) }
-        requires rows { AreReckoned costing.now.flows.now }
-        requires constants { AreInRange costing.now.constants.now }
-        ensures { result ≡ search_of.inner_to (bound_by self.now.group.now.interesting self.now.bounds.now) (costs_by costing.now.n costing.now.constants.now costing.now.flows.now) self.now.number self.now.group.now.interesting wanted }
+        requires rows { reckoning.now.flow.rows ≤ 1000000000000 }
+        requires constants { AreInRange reckoning.now.constants.now }
+        ensures { result ≡ search_of.inner_to (bound_by self.now.group.now.interesting self.now.bounds.now) (adds_by reckoning.now.n reckoning.now.constants.now reckoning.now.flow) self.now.group.now.interesting wanted }
     {
         match wanted {
             Prop::Spread => self.spread(self.group.interesting.as_slice()),
             Prop::Hash(c) => {
-                let shuffled = self.with_move(costing, None, Move::Shuffle(c));
-                self.with_move(costing, shuffled, Move::Trim(c))
+                let shuffled = self.with_move(reckoning, None, Move::Shuffle(c));
+                self.with_move(reckoning, shuffled, Move::Trim(c))
             }
             Prop::Replicated => {
-                let spread = self.with_move(costing, None, Move::Broadcast);
-                let control = self.with_move(costing, spread, Move::FromControl);
-                self.with_move(costing, control, Move::FromSingle)
+                let spread = self.with_move(reckoning, None, Move::Broadcast);
+                let control = self.with_move(reckoning, spread, Move::FromControl);
+                self.with_move(reckoning, control, Move::FromSingle)
             }
             Prop::Single => {
-                let moved = self.with_move(costing, None, Move::ToSingle);
+                let moved = self.with_move(reckoning, None, Move::ToSingle);
                 self.with_free(moved, Prop::Replicated)
             }
-            Prop::Control => self.with_move(costing, None, Move::ToControl),
+            Prop::Control => self.with_move(reckoning, None, Move::ToControl),
         }
     }
 }

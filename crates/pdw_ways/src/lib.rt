@@ -11,6 +11,7 @@ mod least;
 mod made;
 mod offer;
 mod plan;
+mod reckoning;
 mod way;
 
 pub use costing::{Costing, each_move_costs_little};
@@ -23,4 +24,5 @@ pub use least::{inner_offer, least_offer, local_offer};
 pub use made::Made;
 pub use offer::Offer;
 pub use plan::{Bounds, CheckFault, Plan, PlanFault};
+pub use reckoning::Reckoning;
 pub use way::Way;
