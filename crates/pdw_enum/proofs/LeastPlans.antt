@@ -111,7 +111,7 @@ module _ (groups : List Group) (p : Plan) where
 
 -- ---- least plans
 
-built-parts : (groups : List Group) (costs : Costs) (p : Plan) (made : Made) (bound : Option ℕ) → IsBuilt groups costs p made bound → IsPlan groups costs p made × (bound ≡ Some (cost_of_plan groups costs p))
+pub built-parts : (groups : List Group) (costs : Costs) (p : Plan) (made : Made) (bound : Option ℕ) → IsBuilt groups costs p made bound → IsPlan groups costs p made × (bound ≡ Some (cost_of_plan groups costs p))
 built-parts groups costs p made None built = absurd built
 built-parts groups costs p made (Some cost) built = (built.0, ap (λ (n : ℕ). Some n) (sym built.1))
 
