@@ -1,10 +1,10 @@
 -- A plan of the root's cheapest property is a least plan for the query.
 use Rattle.std.proofs.Common.{◌≡◌, ◌≤◌, ◌-◌, ℕ, zero, suc, Bool, true, List, [], ◌∷◌, length, get_or, Option, Some, None, refl, sym, ap, ap₂, subst, ◌∙◌, arith, eq-eqb, if◌then◌else◌}
-use Rattle.std.specs.List.{slice_get}
+use Rattle.std.specs.List.{AllByRecursion, slice_get}
 use Rattle.std.specs.Option.{IsSome, option_and_then, option_or}
 use Rattle.std.proofs.lemmas.Option.{slice_get-get_or, slice_get_read, slice_get_within}
 use Rattle.pdw_enum.proofs.Places.{least-reached}
-use Rattle.pdw_enum.specs.Least.{IsLeastPlan}
+use Rattle.pdw_enum.specs.Least.{IsLeastPlan, IsShort}
 use Rattle.pdw_enum.specs.Root.{AreDifferent, IsCheapest, IsRooted, least_of_root, root_of}
 use Rattle.pdw_groups.specs.declared.group.Group.{Group}
 use Rattle.pdw_groups.specs.declared.key.GroupId.{GroupId}
@@ -13,11 +13,13 @@ use Rattle.pdw_least.specs.Built.{IsBuilt}
 use Rattle.pdw_least.specs.Log.{bounds_after}
 use Rattle.pdw_least.specs.Premises.{AreLight}
 use Rattle.pdw_least.specs.Reached.{IsReached}
+use Rattle.pdw_least.specs.Runs.{HasFewNodes, HasShortRuns, IsWithinFour, operators, runs_of}
 use Rattle.pdw_least.specs.Table.{IsLeastTable}
 use Rattle.pdw_least.specs.declared.entry.Entry.{Entry}
 use Rattle.pdw_move.specs.declared.kinds.Prop.{Prop}
 use Rattle.pdw_move.specs.declared.kinds.Prop.TheVariants as prop
 use Rattle.pdw_plan.proofs.Costless.{plans-alike}
+use Rattle.pdw_plan.proofs.WalkLemmas.{nodes-counted}
 use Rattle.pdw_rules.specs.Rules.{properties_of}
 use Rattle.pdw_ways.specs.Bounds.{AreValid, HaveShape, NoneCheaper, bound_among, bound_by, bound_in, cost_of_plan, least_in}
 use Rattle.pdw_ways.specs.Shape.{IsPlan, is_root, query_fault, shape_of}
@@ -111,7 +113,7 @@ module _ (groups : List Group) (p : Plan) where
 
 -- ---- least plans
 
-pub built-parts : (groups : List Group) (costs : Costs) (p : Plan) (made : Made) (bound : Option ℕ) → IsBuilt groups costs p made bound → IsPlan groups costs p made × (bound ≡ Some (cost_of_plan groups costs p))
+built-parts : (groups : List Group) (costs : Costs) (p : Plan) (made : Made) (bound : Option ℕ) → IsBuilt groups costs p made bound → IsPlan groups costs p made × (bound ≡ Some (cost_of_plan groups costs p))
 built-parts groups costs p made None built = absurd built
 built-parts groups costs p made (Some cost) built = (built.0, ap (λ (n : ℕ). Some n) (sym built.1))
 
@@ -150,3 +152,11 @@ module _ (groups : List Group) (costs : Costs) (lists : Lists) (log : List Entry
           none_cheaper = law table.valid (root_of groups) root.0 (cost_of_plan groups costs p) root.1 root.2;
           small = all-small groups light (bound_in groups lists) table.within;
         }
+
+    pub built-short : (light : AreLight groups) → ((other : Plan) (of : Made) → IsPlan groups costs other of → operators other ≤ light.weight of.group.0) → HasShortRuns p → AllByRecursion IsWithinFour (runs_of p) → HasFewNodes groups costs p → IsShort p
+    built-short light law runs steps few = record {
+      runs = runs;
+      steps = steps;
+      few = let count = nodes-counted groups costs p in omega (arith, count, few);
+      some = let weighs = law p made parts.0 in let most = light.most made.group.0 in omega (arith, weighs, most);
+    }

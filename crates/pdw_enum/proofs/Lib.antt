@@ -13,5 +13,3 @@ pub mod FlowCosts
 pub mod MemoPremises
 -- the least plan
 pub mod LeastPlans
--- how many nodes the plan has
-pub mod NodeCounts

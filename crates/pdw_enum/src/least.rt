@@ -1,17 +1,14 @@
 //! The least plan of a problem.
 
-ghost use Rattle.std.specs.List.{AllByRecursion};
-ghost use Rattle.std.specs.Prelude.{◌≡◌, ◌≤◌, ◌*◌, ◌^◌, IfOk, None};
-ghost use Rattle.pdw_enum.specs.Least.{IsLeastPlan};
+ghost use Rattle.std.specs.Prelude.{◌≡◌, IfOk, None};
+ghost use Rattle.pdw_enum.specs.Least.{IsLeastPlan, IsShort};
 ghost use Rattle.pdw_enum.specs.Root.{IsCheapest, IsRooted};
 ghost use Rattle.pdw_least.specs.Premises.{ArePremises, costs_of};
 ghost use Rattle.pdw_least.specs.Reached.{AreMade};
-ghost use Rattle.pdw_least.specs.Runs.{HasShortRuns, IsWithinFour, operators, runs_of};
 ghost use Rattle.pdw_least.specs.Table.{IsLeastTable};
 ghost use Rattle.pdw_memo.specs.Memo.{IsMemo};
 ghost use Rattle.pdw_move.specs.Cost.{AreInRange};
 ghost use Rattle.pdw_plan.specs.Cost.{costs_in};
-ghost use Rattle.pdw_plan.specs.Count.{node_count};
 ghost use Rattle.pdw_ways.specs.Shape.{query_fault, shape_of};
 ghost use Rattle.pdw_ways.specs.Ways.{Costs as CostsOf};
 
@@ -19,7 +16,7 @@ use crate::flows::all_flows;
 use crate::root::cheapest;
 use pdw_base::NoMemory;
 use pdw_groups::GroupId;
-use pdw_least::{Search, Table, each_group_is_reached};
+use pdw_least::{Search, Table, each_group_is_reached, plans_have_few_operators};
 use pdw_plan::{Bounds, Made, Plan, Problem};
 use pdw_ways::{Costing, tight_bounds_leave_none_cheaper};
 use std::alloc::Global;
@@ -49,32 +46,26 @@ fn least_plan(alloc: Global, search: &Search<'_>) -> Result<(Plan, Bounds), NoMe
     requires made { AreMade search.now.groups.now }
     requires rooted { IsRooted search.now.groups.now }
     ensures query { IfOk result (λ made. query_fault search.now.groups.now (shape_of search.now.groups.now (costs_of search.now.costing.now) made.0) ≡ None) }
+    ensures short { IfOk result (λ made. IsShort made.0) }
     ensures least { IfOk result (λ made. IsLeastPlan search.now.groups.now (costs_of search.now.costing.now) made.0 made.1.lists) }
-    ensures runs { IfOk result (λ made. HasShortRuns made.0) }
-    ensures steps { IfOk result (λ made. AllByRecursion IsWithinFour (runs_of made.0)) }
-    ensures few { IfOk result (λ made. node_count made.0 ≤ 5 * operators made.0) }
-    ensures some { IfOk result (λ made. operators made.0 ≤ 2 ^ 20) }
 {
     let table = search.relax(alloc)?;
     let made = cheapest_root(alloc, search, &table)?;
     let plan = search.build(alloc, &table, made)?;
     tight_bounds_leave_none_cheaper();
+    plans_have_few_operators();
     let Table { lists, .. } = table;
     Ok((plan, Bounds { lists }))
 }
 
 /// A plan for the query that costs least, and for each group of the memo and each of its properties the least cost of any plan;
-/// None exactly where there is no plan. Each constant is 1 to 1,000. In a run of moves and free changes at one group no property
-/// occurs twice, so there are at most four in a run, and the plan has at most five nodes for each of its scans and operators,
-/// of which there are at most 2^20.
+/// None exactly where there is no plan. The plan comes back to no property in a run of moves and free changes. Each constant is
+/// 1 to 1,000.
 pub fn plan(alloc: Global, p: &Problem<'_>) -> Result<(Plan, Bounds), NoMemory>
     requires constants { AreInRange p.now.constants.now }
     ensures query { IfOk result (λ made. (costs : CostsOf) → query_fault p.now.memo.now.groups (shape_of p.now.memo.now.groups costs made.0) ≡ None) }
+    ensures short { IfOk result (λ made. IsShort made.0) }
     ensures least { IfOk result (λ made. (is : IsMemo p.now.memo.now) → IsLeastPlan p.now.memo.now.groups (costs_in p.now.memo.now is p.now.book.now p.now.n p.now.constants.now) made.0 made.1.lists) }
-    ensures runs { IfOk result (λ made. HasShortRuns made.0) }
-    ensures steps { IfOk result (λ made. AllByRecursion IsWithinFour (runs_of made.0)) }
-    ensures few { IfOk result (λ made. node_count made.0 ≤ 5 * operators made.0) }
-    ensures some { IfOk result (λ made. operators made.0 ≤ 2 ^ 20) }
 {
     let groups = p.memo.groups();
     p.book.keeps_ranges();
