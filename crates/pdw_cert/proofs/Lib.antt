@@ -12,3 +12,5 @@ pub mod Reckoned
 pub mod Looked
 -- there is one verdict
 pub mod Verdicts
+-- the bounds of a count over a table, worked out by hand
+mod ByHand
