@@ -1,0 +1,2 @@
+-- what is planned is undercut by no plan
+pub mod Undercut

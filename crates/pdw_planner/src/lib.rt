@@ -1,0 +1,10 @@
+//! From a judged query to its least plan.
+#![tactic(auto)]
+
+mod laws;
+mod planned;
+mod query;
+
+pub use laws::no_plan_undercuts_the_planned_one;
+pub use planned::Planned;
+pub use query::{Ground, plan_query};
