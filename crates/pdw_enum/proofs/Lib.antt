@@ -13,3 +13,5 @@ pub mod FlowCosts
 pub mod MemoPremises
 -- the least plan
 pub mod LeastPlans
+-- the root and the least of its bounds, by hand
+mod ByHand
