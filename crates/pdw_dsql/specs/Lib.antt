@@ -1,0 +1,8 @@
+-- the local trees of operators
+pub mod Trees
+-- the nodes at which trees run
+pub mod Sites
+-- plans cut into steps
+pub mod Steps
+-- steps that are run one after the other
+pub mod Follows

@@ -1,0 +1,11 @@
+//! Plans cut into steps: local trees that run at the nodes, and the moves between them.
+#![tactic(auto)]
+
+mod cutting;
+mod laws;
+mod steps;
+mod trees;
+
+pub use cutting::cut;
+pub use laws::steps_give_the_plans_rows;
+pub use steps::{Site, Step, Steps};
