@@ -6,3 +6,5 @@ pub mod Sites
 pub mod Steps
 -- steps that are run one after the other
 pub mod Follows
+-- steps that are well-typed
+pub mod Typed

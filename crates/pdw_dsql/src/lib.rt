@@ -7,5 +7,5 @@ mod steps;
 mod trees;
 
 pub use cutting::cut;
-pub use laws::steps_give_the_plans_rows;
+pub use laws::{steps_are_well_typed, steps_give_the_plans_rows};
 pub use steps::{Site, Step, Steps};
