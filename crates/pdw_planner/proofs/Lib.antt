@@ -1,2 +1,4 @@
 -- what is planned is undercut by no plan
 pub mod Undercut
+-- The checker accepts what is planned
+pub mod Accepted

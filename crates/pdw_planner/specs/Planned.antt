@@ -10,6 +10,7 @@ use Rattle.pdw_move.specs.declared.cost.Constants.{Constants}
 use Rattle.pdw_plan.specs.Cost.{costs_in}
 use Rattle.pdw_planner.specs.declared.planned.Planned.{Planned}
 use Rattle.pdw_stats.specs.Book.{Book}
+use Rattle.pdw_ways.specs.Bounds.{cost_of_plan}
 use Rattle.pdw_ways.specs.Shape.{query_fault, shape_of}
 use Rattle.pdw_ways.specs.Ways.{Costs}
 
@@ -28,3 +29,7 @@ pub record IsPlanned (tables : Tables) (book : Book) (n budget : ℕ) (constants
   pub least : (is : IsMemo planned.memo) → IsLeastPlan planned.memo.groups (costs_in planned.memo is book n constants) planned.plan planned.bounds.lists
   -- the plan has short runs of moves and few nodes
   pub short : IsShort planned.plan
+
+-- what its plan costs
+abbrev pub cost_in : (planned : Planned) → IsMemo planned.memo → Book → ℕ → Constants → ℕ
+cost_in planned is book n constants = cost_of_plan planned.memo.groups (costs_in planned.memo is book n constants) planned.plan

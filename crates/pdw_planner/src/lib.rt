@@ -5,6 +5,6 @@ mod laws;
 mod planned;
 mod query;
 
-pub use laws::no_plan_undercuts_the_planned_one;
+pub use laws::{no_plan_undercuts_the_planned_one, what_is_planned_is_accepted};
 pub use planned::Planned;
 pub use query::{Ground, plan_query};
