@@ -1,0 +1,2 @@
+-- the words of moves
+pub mod Words

@@ -1,0 +1,6 @@
+use Rattle.pdw_show.proofs.Indents.{indent-more}
+use Rattle.pdw_show.proofs.plan.push_indent.Goals as goal
+
+pub loop-level-preserved : goal.loop-level-preserved
+loop-level-preserved c =
+    indent-more c.args.text.now.items c.loop-level.text.items c.extend_from_slice.new.self.items c.loop-level._level c.loop-level.invariant c.in_ok-extend_from_slice.ensures.items
