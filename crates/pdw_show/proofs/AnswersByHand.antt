@@ -1,5 +1,5 @@
 -- Texts of answers that were worked out by hand.
-use Rattle.std.proofs.Common.{◌≡◌, ℕ, pos, negsuc, List, [], ◌∷◌, codes, Option, Some, None, refl}
+use Rattle.std.proofs.Common.{◌≡◌, ℕ, pos, negsuc, List, [], ◌∷◌, codes, Some, None, refl}
 use Rattle.std.specs.Fmt.{digits}
 use Rattle.pdw_answer.specs.declared.answer.Answer.TheVariants.{Done, Loaded, Rows, Plan, Json, Profile, Checked}
 use Rattle.pdw_answer.specs.declared.answer.PlanVerdict.TheVariants as verdict

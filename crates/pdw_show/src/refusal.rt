@@ -201,11 +201,7 @@ fn code_line(alloc: Global, statement: Option<u32>, code: &Code) -> Result<Strin
 
 /// The line of a refusal: of this statement, counted from 1, where the code is of one, and else of the script. A code that is a
 /// want of memory has no line, and is answered as one.
-pub fn show_refusal(
-    alloc: Global,
-    statement: Option<u32>,
-    code: &Code,
-) -> Result<Vec<u8>, NoMemory>
+pub fn show_refusal(alloc: Global, statement: Option<u32>, code: &Code) -> Result<Vec<u8>, NoMemory>
     requires { is_some statement ≡ spec.has_statement code.now }
     ensures line { IfOk result (λ line. spec.shown_refusal statement code.now ≡ Some line.items) }
     ensures named { OnOk result (spec.IsNamed code.now) }
