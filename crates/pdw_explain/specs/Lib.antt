@@ -1,0 +1,4 @@
+-- what a plan makes
+pub mod Makes
+-- the lines of a plan
+pub mod Lines
