@@ -1,0 +1,2 @@
+-- that there are least costs and least plans
+pub mod Exists

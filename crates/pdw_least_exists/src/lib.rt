@@ -1,0 +1,6 @@
+//! The laws that there are least costs and least plans: over the definitions, whatever code finds or has memory for.
+#![tactic(auto)]
+
+mod laws;
+
+pub use laws::there_is_a_least_table;
