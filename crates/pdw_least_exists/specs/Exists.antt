@@ -1,4 +1,4 @@
--- That there are least costs and least plans.
+-- That there are least costs.
 use Rattle.std.specs.Prelude.{◌<◌, ℕ, List, Option}
 use Rattle.pdw_groups.specs.declared.group.Group.{Group}
 use Rattle.pdw_groups.specs.declared.key.GroupId.{GroupId}

@@ -1,2 +1,2 @@
--- that there are least costs and least plans
+-- that there are least costs
 pub mod Exists

@@ -1,4 +1,4 @@
-//! The laws that there are least costs and least plans.
+//! The law that there are least costs.
 
 ghost use Rattle.std.specs.Prelude.{List};
 ghost use Rattle.pdw_groups.specs.declared.group.Group.{Group as GroupValue};

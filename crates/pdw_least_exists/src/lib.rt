@@ -1,4 +1,4 @@
-//! The laws that there are least costs and least plans: over the definitions, whatever code finds or has memory for.
+//! The law that there are least costs: over the definitions, whatever code finds or has memory for.
 #![tactic(auto)]
 
 mod laws;
