@@ -1,0 +1,2 @@
+-- that a query has a least plan
+pub mod HasLeastPlan
