@@ -12,3 +12,13 @@ pub mod LawfulLaws
 pub mod SamePlains
 -- What a session keeps stays in order
 pub mod StateLemmas
+-- What is measured of rows that fit a table is in its ranges
+pub mod ReachableRows
+-- A book that tells the statistics of each name, after those of one name have changed
+pub mod ReachableBooks
+-- What every statement keeps of a plain state
+pub mod ReachableKept
+-- The plain states that a script reaches, and that queries can be planned over each of them
+pub mod Reachable
+-- Over each plain state that a script reaches, each query that the judgement accepts has a least plan
+pub mod ReachablePlans

@@ -10,3 +10,4 @@ pub mod Plain
 pub mod Prepared
 pub mod Executes
 pub mod Selected
+pub mod Reachable
