@@ -18,3 +18,11 @@ pub mod Runs
 pub mod Lists
 -- What is planned keeps the limits
 pub mod Files
+-- A sound tree that makes columns of low numbers gives such columns
+pub mod TreeColumns
+-- So do the groups of its memo
+pub mod GroupColumns
+-- A plan without fault has numbers as plan files write them
+pub mod PlanNumbers
+-- So does each plan for the query of a statement that is accepted
+pub mod SmallNumbers

@@ -3,4 +3,4 @@
 
 mod laws;
 
-pub use laws::planned_files_keep_their_limits;
+pub use laws::{planned_files_have_small_numbers, planned_files_keep_their_limits};

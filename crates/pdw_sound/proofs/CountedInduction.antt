@@ -178,7 +178,7 @@ module _ (table query : ℕ) where
       (subst (QueryCounts table query) (sym (fold-roll-Query ElementWalk Condition JoinWalk QueryWalk ElementWalk primary_step cond_step join_step query_step table_ref_step (known_query y)))
       (counts_text table query (query_walks (known_query y)) (record { from = elements y.from; filter = filter_if y y.filter; having = having_if y y.having })))
 
-  counts_query : (q : Query) → QueryCounts table query (query_walk q)
+  pub counts_query : (q : Query) → QueryCounts table query (query_walk q)
   counts_query = ind-Query (λ x. ElementCounts table query (element x)) (λ x. CondCounts table query (condition x)) (λ x. JoinCounts table query (join x)) (λ x. QueryCounts table query (query_walk x)) (λ x. ElementCounts table query (table_ref x)) primary_law cond_law join_law query_law table_law
 
   -- ---- ORDER BY

@@ -217,7 +217,7 @@ module _ (table query : ℕ) where
   counts_finish n distinct is_group drafts filters keys having outputs = record {
     at = λ w. record {
       sums = in_all (counted table query w) n query (drafts_count table query drafts) (subs_count table query filters.subs) _ (query_count-walked table query w.numbers distinct drafts filters (group_of is_group keys w.aggs having) outputs);
-      limits = λ within. record { references = within.references; queries = within.queries };
+      limits = λ within. record { references = within.references; queries = within.queries; used = within.used };
     };
   }
     where
@@ -227,7 +227,7 @@ module _ (table query : ℕ) where
   tally_restored : {A : Type 0} (n : ℕ) (count : A → ℕ) (w : Walk) (o : Outcome A) → TallyOf table query n count (with_taken [] (with_aggs [] w)) o → TallyOf table query n count w (restored w o)
   tally_restored n count w (done a v) here = record {
     sums = here.sums;
-    limits = λ within. let ends = here.limits (record { references = within.references; queries = within.queries }) in record { references = ends.references; queries = ends.queries };
+    limits = λ within. let ends = here.limits (record { references = within.references; queries = within.queries; used = within.used }) in record { references = ends.references; queries = ends.queries; used = ends.used };
   }
   tally_restored n count w (refused fault) here = tt
 

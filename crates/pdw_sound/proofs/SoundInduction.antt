@@ -17,7 +17,7 @@ use Rattle.pdw_sound.proofs.SoundDerived.{derived_sound}
 use Rattle.pdw_sound.proofs.SoundFrom.{paren_sound, table_ref_sound}
 use Rattle.pdw_sound.proofs.SoundJoins.{join_part_sound}
 use Rattle.pdw_sound.proofs.SoundQueries.{query_sound}
-use Rattle.pdw_sound.proofs.SoundRelations.{CondSound, CondSoundIf, Distinct, ElementSound, JoinSound, QuerySound}
+use Rattle.pdw_sound.proofs.SoundRelations.{CondSound, CondSoundIf, Distinct, ElementSound, JoinSound, QueryFits, QuerySound}
 use Rattle.pdw_sound.proofs.SoundTables.{named_sound}
 use Rattle.pdw_form.specs.Sound.{HaveColumns, IsSound, query_shape}
 use Rattle.pdw_syntax.specs.Written.{cond_written_step, if_any, join_written_step, primary_written_step, query_written, query_written_step, some_elements, table_written_step}
@@ -30,6 +30,7 @@ use Rattle.pdw_walk.specs.Froms as walk
 use Rattle.pdw_walk.specs.Queries as walk_of
 use Rattle.pdw_walk.specs.Walk.{Walk, beginning, done, each, pure}
 use Rattle.pdw_walk.specs.declared.entry.Role.TheVariants as role
+use Rattle.pdw_walk.specs.declared.entry.Walked.{Walked}
 use Rattle.pdw_form.specs.declared.judged.JudgedQuery.{JudgedQuery}
 use Rattle.pdw_form.specs.declared.judged.JudgedSelect.{JudgedSelect}
 
@@ -261,14 +262,32 @@ module _ (database : Database) (have : HaveColumns database.tables) where
       → Distinct (query_shape database.tables q).columns_made → IsSound database.tables q
   alone_is_sound q sound alone made = record { parts = and_from _ _ sound (and_from _ _ (ap not alone.0) alone.1); made = made }
 
-  select_is_sound : (s : Select) → query_written s.query ≡ true → (j : JudgedSelect) (w : Walk) → walk_of.select database.tables s beginning ≡ done j w → IsSound database.tables j.query
+  -- the walk of the query of a SELECT, and what it says of the query's numbered form
+  pub record SelectWalk (s : Select) (j : JudgedSelect) : Type 0 where
+    pub walked : Walked
+    pub last : Walk
+    pub begun : walk_of.query database.tables s.query role.Statement [] beginning ≡ done walked last
+    pub fits : QueryFits database role.Statement [] beginning walked last
+    pub same : walked.query ≡ j.query
+
+  pub select_walk : (s : Select) → query_written s.query ≡ true → (j : JudgedSelect) (w : Walk) → walk_of.select database.tables s beginning ≡ done j w → SelectWalk s j
   unfolding walk_of.select
-  select_is_sound s written j w walked =
+  select_walk s written j w walked =
       let first = in_turn (walk_of.query database.tables s.query role.Statement [] beginning) (walk_of.ordered s.order) j w walked in
       let second = in_turn (each (walk_of.order_key (map walk_of.name_of (first.value).outputs)) s.order first.middle) (λ keys. pure (record { query = (first.value).query; order = keys })) j w first.ended in
-      let fits = (written_is_sound s.query written).gives role.Statement [] beginning first.value first.middle nothing_proper tt (record { numbers = tt; scopes = tt }) first.begun in
-      subst (IsSound database.tables) (ap (λ (j : JudgedSelect). j.query) (done_value second.ended))
-      (alone_is_sound (first.value).query (fits.sound [] [] tt tt (fits.limit (omega arith))) fits.alone fits.distinct)
+      record {
+        walked = first.value;
+        last = first.middle;
+        begun = first.begun;
+        fits = (written_is_sound s.query written).gives role.Statement [] beginning first.value first.middle nothing_proper tt (record { numbers = tt; scopes = tt }) first.begun;
+        same = ap (λ (j : JudgedSelect). j.query) (done_value second.ended);
+      }
+
+  select_is_sound : (s : Select) → query_written s.query ≡ true → (j : JudgedSelect) (w : Walk) → walk_of.select database.tables s beginning ≡ done j w → IsSound database.tables j.query
+  select_is_sound s written j w walked =
+      let of = select_walk s written j w walked in
+      let fits = of.fits in
+      subst (IsSound database.tables) of.same (alone_is_sound (of.walked).query (fits.sound [] [] tt tt (fits.limit (omega arith))) fits.alone fits.distinct)
 
 -- what is judged has a sound numbered form
 pub judged_is_sound : (database : Database) → HaveColumns database.tables → (s : Select) → query_written s.query ≡ true → (j : JudgedSelect) (w : Walk) → walk_of.select database.tables s beginning ≡ done j w → IsSound database.tables j.query

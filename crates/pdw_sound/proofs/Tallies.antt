@@ -1,5 +1,5 @@
--- What steps of the walk count: table references and queries, within the limits of a statement.
-use Rattle.std.proofs.Common.{◌≡◌, ℕ, suc, ◌+◌, ◌*◌, ◌≤◌, ◌==◌, Bool, true, false, List, [], ◌∷◌, ◌++◌, length, position, Option, Some, None, refl, sym, ap, ◌∙◌, if◌then◌else◌, arith, inl, inr, eq-eqb, true≢false}
+-- What steps of the walk count: table references and queries, within the limits of a statement, which its numbers keep too.
+use Rattle.std.proofs.Common.{◌≡◌, ℕ, suc, ◌+◌, ◌*◌, ◌≤◌, ◌==◌, Bool, true, false, List, [], ◌∷◌, ◌++◌, length, position, Option, Some, None, refl, sym, ap, ◌∙◌, if◌then◌else◌, arith, inl, inr, eq-eqb, true≢false, length-append}
 use Rattle.std.specs.Bool.{⊤}
 use Rattle.std.specs.List.{AllByRecursion}
 use Rattle.std.proofs.Math.Nat.{mul-suc}
@@ -14,10 +14,11 @@ use Rattle.pdw_walk.specs.declared.fault.JudgeFault.TheVariants.{DuplicateName, 
 use Rattle.pdw_walk.specs.declared.fault.LimitName.TheVariants as limit
 use Rattle.pdw_walk.specs.declared.fault.TheConstants.{MOST_QUERIES, MOST_REFERENCES, MOST_USED}
 
--- a walk that began at most so many table references and queries
+-- a walk that began at most so many table references and queries, and gave at most so many numbers
 pub record InLimits (w : Walk) : Type 0 where
   pub references : w.references ≤ MOST_REFERENCES
   pub queries : w.queries ≤ MOST_QUERIES
+  pub used : length w.numbers ≤ MOST_USED
 
 below-limit : (n limit : ℕ) → (n == limit) ≡ false → n ≤ limit → n + 1 ≤ limit
 below-limit n limit other most = elim (cases_lt n limit) [
@@ -59,14 +60,18 @@ module _ (table query : ℕ) where
 module _ {table query : ℕ} where
   -- ---- steps that are made of steps
 
-  tally-same : (n : ℕ) (w w' : Walk) → w'.references ≡ w.references → w'.queries ≡ w.queries → Tally table query n n w w'
-  tally-same n w w' references queries = record {
+  tally-within : (n : ℕ) (w w' : Walk) → w'.references ≡ w.references → w'.queries ≡ w.queries → (length w.numbers ≤ MOST_USED → length w'.numbers ≤ MOST_USED) → Tally table query n n w w'
+  tally-within n w w' references queries used = record {
     sums = λ i. (table * references i + query * queries i) + n;
     limits = λ within. record {
       references = let few = within.references in omega (arith, few, references);
       queries = let few = within.queries in omega (arith, few, queries);
+      used = used within.used;
     };
   }
+
+  tally-same : (n : ℕ) (w w' : Walk) → w'.references ≡ w.references → w'.queries ≡ w.queries → w'.numbers ≡ w.numbers → Tally table query n n w w'
+  tally-same n w w' references queries numbers = tally-within n w w' references queries (λ few. let same = ap length numbers in omega (arith, few, same))
 
   tally-on : {B : Type 0} (before middle : ℕ) (count : B → ℕ) (w v : Walk) → Tally table query before middle w v → (o : Outcome B) → TallyOf table query middle count v o → TallyOf table query before count w o
   tally-on before middle count w v here (done b w') after = record {
@@ -131,7 +136,7 @@ module _ {table query : ℕ} where
   tallies_count_query n = record {
     at = λ w. either n (λ _. n + query) (w.queries == MOST_QUERIES) (Limit limit.Queries MOST_QUERIES) tt w (with_queries (w.queries + 1) w) (λ room. record {
       sums = let more = one-more query w.queries in omega (arith, more);
-      limits = λ within. record { references = within.references; queries = below-limit w.queries MOST_QUERIES room within.queries };
+      limits = λ within. record { references = within.references; queries = below-limit w.queries MOST_QUERIES room within.queries; used = within.used };
     });
   }
 
@@ -140,7 +145,7 @@ module _ {table query : ℕ} where
   tallies_count_reference n = record {
     at = λ w. either n (λ _. n + table) (w.references == MOST_REFERENCES) (Limit limit.References MOST_REFERENCES) w.references w (with_references (w.references + 1) w) (λ room. record {
       sums = let more = one-more table w.references in omega (arith, more);
-      limits = λ within. record { references = below-limit w.references MOST_REFERENCES room within.references; queries = within.queries };
+      limits = λ within. record { references = below-limit w.references MOST_REFERENCES room within.references; queries = within.queries; used = within.used };
     });
   }
 
@@ -148,7 +153,11 @@ module _ {table query : ℕ} where
 
   keeps_next : (slot : Slot) → Keeps table query (next_number slot)
   keeps_next slot n = record {
-    at = λ w. either n (λ _. n) (length w.numbers == MOST_USED) (Limit limit.Used MOST_USED) (col_id (length w.numbers)) w (with_numbers (w.numbers ++ slot ∷ []) w) (λ room. tally-same n w (with_numbers (w.numbers ++ slot ∷ []) w) refl refl);
+    at = λ w. either n (λ _. n) (length w.numbers == MOST_USED) (Limit limit.Used MOST_USED) (col_id (length w.numbers)) w (with_numbers (w.numbers ++ slot ∷ []) w) (λ room.
+        tally-within n w (with_numbers (w.numbers ++ slot ∷ []) w) refl refl (λ few.
+        let more = length-append w.numbers (slot ∷ []) in
+        let most = below-limit (length w.numbers) MOST_USED room few in
+        omega (arith, more, most)));
   }
 
   keeps_number_at : (slot : Slot) (place : Option ℕ) → Keeps table query (number_at slot place)
@@ -166,23 +175,23 @@ module _ {table query : ℕ} where
   pub keeps_alias : (alias : List ℕ) → Keeps table query (take_alias alias)
   unfolding take_alias
   keeps_alias alias n = record {
-    at = λ w. either n (λ _. n) (is_among alias w.taken) (DuplicateName alias) tt w (with_taken (w.taken ++ alias ∷ []) w) (λ room. tally-same n w (with_taken (w.taken ++ alias ∷ []) w) refl refl);
+    at = λ w. either n (λ _. n) (is_among alias w.taken) (DuplicateName alias) tt w (with_taken (w.taken ++ alias ∷ []) w) (λ room. tally-same n w (with_taken (w.taken ++ alias ∷ []) w) refl refl refl);
   }
 
   pub keeps_aggregate : (agg : Agg) → Keeps table query (add_aggregate agg)
   unfolding add_aggregate
-  keeps_aggregate agg n = record { at = λ w. tally-same n w _ refl refl }
+  keeps_aggregate agg n = record { at = λ w. tally-same n w _ refl refl refl }
 
   pub keeps_meet : Keeps table query meet_outer
   unfolding meet_outer
-  keeps_meet n = record { at = λ w. tally-same n w _ refl refl }
+  keeps_meet n = record { at = λ w. tally-same n w _ refl refl refl }
 
   pub keeps_forget : Keeps table query forget_outer
   unfolding forget_outer
-  keeps_forget n = record { at = λ w. tally-same n w _ refl refl }
+  keeps_forget n = record { at = λ w. tally-same n w _ refl refl refl }
 
   pub keeps_met : Keeps table query met_outer
-  keeps_met n = record { at = λ w. tally-same n w w refl refl }
+  keeps_met n = record { at = λ w. tally-same n w w refl refl refl }
 
 pub nothing_known : {A : Type 0} (xs : List A) → AllByRecursion (λ x. ⊤) xs
 nothing_known [] = tt

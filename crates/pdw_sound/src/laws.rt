@@ -1,6 +1,7 @@
 //! Laws of trees and of the forms that they come from.
 
 ghost use Rattle.pdw_algebra.specs.Meaning.{rows_of};
+ghost use Rattle.pdw_algebra.specs.Shape.{shape_of};
 ghost use Rattle.pdw_algebra.specs.WellFormed.{IsWellFormed};
 ghost use Rattle.pdw_syntax.specs.declared.query.Select.{Select as Written};
 ghost use Rattle.pdw_syntax.specs.declared.statement.Statement.{Statement};
@@ -17,11 +18,12 @@ ghost use Rattle.pdw_semantics.specs.Answer.{answer};
 ghost use Rattle.pdw_form.specs.Numbered.{outs_of};
 ghost use Rattle.pdw_walk.specs.Forms.{Judges};
 ghost use Rattle.pdw_walk.specs.Statements.{judgement};
-ghost use Rattle.pdw_walk.specs.declared.fault.TheConstants.{MOST_QUERIES, MOST_REFERENCES};
+ghost use Rattle.pdw_walk.specs.declared.fault.TheConstants.{MOST_QUERIES, MOST_REFERENCES, MOST_USED};
 ghost use Rattle.pdw_form.specs.declared.judged.Judged.TheVariants as judged;
 ghost use Rattle.pdw_form.specs.declared.judged.JudgedQuery.{out-JudgedQuery};
 ghost use Rattle.pdw_form.specs.declared.judged.JudgedSelect.{JudgedSelect as Numbered};
-ghost use Rattle.std.specs.Prelude.{◌≡◌, ◌*◌, ◌≤◌, true, Ok, map};
+ghost use Rattle.std.specs.List.{AllByRecursion};
+ghost use Rattle.std.specs.Prelude.{◌≡◌, ◌*◌, ◌≤◌, ◌<◌, true, Ok, map};
 
 /// The law of the tree: where the judgement gives a SELECT its numbered form, that form is sound, its tree is well-formed
 /// over the tables, and the tree's rows, each read in the order of the items, are the rows of the SELECT, as lists.
@@ -36,10 +38,12 @@ pub fn the_tree_means_its_query()
     ensures rows { (database : Database) (s : Written) (j : Numbered) → HaveColumns database.tables → query_written s.query ≡ true → judgement database.tables (statement.Select s) ≡ Ok (judged.Select j) → map (key_of (outs_of (out-JudgedQuery j.query).items)) (rows_of database (bound j.query)) ≡ answer database s }
 {}
 
-/// A statement that is accepted has at most 10 table references and 64 queries.
+/// A statement that is accepted has at most 10 table references and 64 queries, and its tree makes no column of a number of 128
+/// or more.
 pub fn a_statement_keeps_its_limits()
     ensures references { (tables : AllTables) (x : Statement) (s : Written) (j : Numbered) → Judges tables x s j → references j.query ≤ MOST_REFERENCES }
     ensures queries { (tables : AllTables) (x : Statement) (s : Written) (j : Numbered) → Judges tables x s j → queries j.query ≤ MOST_QUERIES }
+    ensures columns { (database : Database) (x : Statement) (s : Written) (j : Numbered) → HaveColumns database.tables → query_written s.query ≡ true → Judges database.tables x s j → AllByRecursion (λ c. c.0 < MOST_USED) (shape_of database.tables (bound j.query)).made }
 {}
 
 /// The tree of a statement that is accepted has at most 10 scans, 82 leaves of blocks and 9 joins, and for each query at
