@@ -42,8 +42,13 @@ fn memo_of_tree(alloc: Global, tree: &Tree, ground: &Ground<'_>) -> Result<Memo,
     explore(alloc, memo, ground.budget)
 }
 
-// The memo of a query's tree.
-fn memo_of_query(alloc: Global, query: &JudgedQuery, ground: &Ground<'_>) -> Result<Memo, NoMemory>
+/// The memo of a query's tree, explored within the budget. The tree is one of which there is a memo, as that of each statement is
+/// that the judgement accepts.
+pub fn memo_of_query(
+    alloc: Global,
+    query: &JudgedQuery,
+    ground: &Ground<'_>,
+) -> Result<Memo, NoMemory>
     requires { IsPlannable ground.now.catalog.now (bound query.now) }
     ensures { IfOk result (λ memo. memo ≡ memo_within ground.now.budget ground.now.catalog.now (bound query.now)) }
 {

@@ -11,3 +11,4 @@ mod words;
 
 pub use answer::show_answer;
 pub use refusal::{Code, show_refusal};
+pub use rows::push_rows;

@@ -57,7 +57,8 @@ fn push_row(text: &mut Vec<u8>, row: &Row) -> Result<(), NoMemory>
     Ok(())
 }
 
-fn push_rows(text: &mut Vec<u8>, rows: &[Row]) -> Result<(), NoMemory>
+/// Adds a line for each row.
+pub fn push_rows(text: &mut Vec<u8>, rows: &[Row]) -> Result<(), NoMemory>
     ensures { OnOk result (text.new.items ≡ text.old.items ++ flat_map row_text rows.now) }
 {
     for row in rows {
