@@ -19,7 +19,7 @@ printf 'SELECT a FROM' >cut_off.sql
 : >empty.sql
 {
     cat s.sql
-    echo 'SET BUDGET 5; EXPLAIN SELECT * FROM t;'
+    echo 'SET BUDGET 5; PROFILE SELECT * FROM t;'
 } >not_built.sql
 sed 's/t.csv/none.csv/' s.sql >no_file.sql
 
@@ -77,8 +77,14 @@ DROP TABLE e;
 SELECT k FROM e;
 SCRIPT
 
+for statement in 'EXPLAIN JSON' "CHECK PLAN 'plan.json' FOR"; do
+    echo 'CREATE TABLE e (k INT, v INT) WITH (DISTRIBUTION = HASH(k));'
+    echo "$statement SELECT COUNT(*) FROM e;"
+done | split -l 2 --additional-suffix=.sql - counted_
+
 # Builds it, where that is still to be done.
 "$top/pdw" run 1 empty.sql || exit 1
+"$top/pdw" run 4 counted_aa.sql | sed -n 2p >plan.json
 
 for example in "$top"/examples/*/; do
     expect "the example $(basename "$example")" 0 "$(cat "$example/expected")" in_folder "$example" "$top/pdw" run 4 s.sql
@@ -88,6 +94,8 @@ expect 'one node' 0 "$(printf 'OK\nLOADED 2\na,b\n4,"x"\nNULL,"y"\nROWS 2')" "$t
 expect 'an empty script' 0 '' "$top/pdw" run 3 empty.sql
 expect refused 1 'REFUSED E6 SYNTAX AT 13' "$top/pdw" run 3 cut_off.sql
 expect 'not built' 1 "$(printf 'OK\nLOADED 2\na,b\n4,"x"\nNULL,"y"\nROWS 2\nOK\nREFUSED E19 STATEMENT 5 NOTBUILT')" "$top/pdw" run 1 not_built.sql
+expect 'a plan file as it was printed' 0 "$(printf 'OK\nPLAN ACCEPTED COST 192')" "$top/pdw" run 4 counted_ab.sql
+expect 'a plan file of another appliance' 0 "$(printf 'OK\nPLAN REFUSED WRONGCOST WRITTEN 192 COMPUTED 96')" "$top/pdw" run 2 counted_ab.sql
 expect 'a later file with a field too many' 1 "$(printf 'OK\nLOADED 3\na,b\n1,"x,y"\n2,""\n3,NULL\nROWS 3\nREFUSED E17 STATEMENT 4 FIELDCOUNT 3')" "$top/pdw" run 4 field_count.sql
 expect 'a dropped table' 1 "$(printf 'OK\nOK\nREFUSED E9 STATEMENT 3 UNKNOWNTABLE e')" "$top/pdw" run 4 dropped.sql
 expect 'no words' 2 '' "$top/pdw"

@@ -14,7 +14,7 @@ use Rattle.pdw_syntax.specs.declared.statement.Statement.{Statement}
 use Rattle.pdw_syntax.specs.declared.statement.Statement.TheVariants as s
 use Rattle.pdw_base.specs.declared.value.Kind.{Kind}
 use Rattle.pdw_base.specs.declared.value.Kind.TheVariants as kind_is
-use Rattle.pdw_syntax.specs.Written.{column_written, is_type, some_columns, statement_written}
+use Rattle.pdw_syntax.specs.Written.{column_written, is_type, query_written, some_columns, statement_written}
 use Rattle.pdw_catalog.specs.Appliance.{IsTable}
 use Rattle.pdw_catalog.specs.Catalog.{Tables, table_named}
 use Rattle.pdw_catalog.specs.Table.{IsPlaced, IsStoredKind}
@@ -23,9 +23,15 @@ use Rattle.pdw_catalog.specs.declared.table.Placing.{Placing}
 use Rattle.pdw_catalog.specs.declared.table.Placing.TheVariants.{Hash}
 use Rattle.pdw_catalog.specs.declared.table.Table.{Table}
 use Rattle.pdw_catalog.specs.declared.table.TheConstants.{MOST_COLUMNS, MOST_TABLES}
+use Rattle.pdw_bind.specs.Bind.{bound}
+use Rattle.pdw_bound.proofs.Plannable.{bound-plannable}
 use Rattle.pdw_engine.specs.Prepared.{IsPrepared, is_built}
+use Rattle.pdw_engine.specs.Ready.{planned_form}
 use Rattle.pdw_engine.specs.Statistics.{AreNumbers, Numbers}
 use Rattle.pdw_walk.proofs.Outcomes.{done_value, in_turn, refused_not_done}
+use Rattle.pdw_form.specs.Sound.{HaveColumns}
+use Rattle.pdw_memo.specs.Memo.{IsPlannable}
+use Rattle.pdw_walk.specs.Forms.{Judges, judged_select_of, select_of}
 use Rattle.pdw_walk.specs.Queries.{select}
 use Rattle.pdw_walk.specs.Statements.{answer_of, budget_setting, cost_name, cost_setting, create, hand, is_named, is_of_place, judgement, known, known_or_fault, lies_in, new_column, new_statistic, place_of_column, place_or_fault, placing, setting, statement, with_known}
 use Rattle.pdw_walk.specs.Walk.{Outcome, Step, Walk, and_then, beginning, done, over, pure, refuse_if, refused}
@@ -122,6 +128,9 @@ IsReady tables statement (judged.Hand name rows cols) = IsSome (table_named name
 IsReady tables statement (judged.Budget amount) = (1 ≤ amount) × (amount ≤ 100000)
 IsReady tables statement (judged.Cost part amount) = (1 ≤ amount) × (amount ≤ 1000)
 IsReady tables statement (judged.Select form) = (select : Select) × (statement ≡ s.Select select)
+IsReady tables statement (judged.Explain form) = (select : Select) × (statement ≡ s.Explain select)
+IsReady tables statement (judged.ExplainJson form) = (select : Select) × (statement ≡ s.ExplainJson select)
+IsReady tables statement (judged.CheckPlan file form) = (select : Select) × (statement ≡ s.CheckPlan file select)
 IsReady tables statement _ = ⊥
 
 not_some : (found : Option Table) → is_some found ≡ false → found ≡ None
@@ -173,6 +182,21 @@ select_ready : (tables : Tables) (query : Select) (w : Walk) (work : Judged) (w'
 select_ready tables query w work w' e =
     let turn = in_turn (select tables query w) (λ form. pure (judged.Select form)) work w' e in
     subst (IsReady tables (s.Select query)) (done_value turn.ended) (query, refl)
+
+explain_ready : (tables : Tables) (query : Select) (w : Walk) (work : Judged) (w' : Walk) → and_then (select tables query w) (λ form. pure (judged.Explain form)) ≡ done work w' → IsReady tables (s.Explain query) work
+explain_ready tables query w work w' e =
+    let turn = in_turn (select tables query w) (λ form. pure (judged.Explain form)) work w' e in
+    subst (IsReady tables (s.Explain query)) (done_value turn.ended) (query, refl)
+
+json_ready : (tables : Tables) (query : Select) (w : Walk) (work : Judged) (w' : Walk) → and_then (select tables query w) (λ form. pure (judged.ExplainJson form)) ≡ done work w' → IsReady tables (s.ExplainJson query) work
+json_ready tables query w work w' e =
+    let turn = in_turn (select tables query w) (λ form. pure (judged.ExplainJson form)) work w' e in
+    subst (IsReady tables (s.ExplainJson query)) (done_value turn.ended) (query, refl)
+
+check_ready : (tables : Tables) (file : List ℕ) (query : Select) (w : Walk) (work : Judged) (w' : Walk) → and_then (select tables query w) (λ form. pure (judged.CheckPlan file form)) ≡ done work w' → IsReady tables (s.CheckPlan file query) work
+check_ready tables file query w work w' e =
+    let turn = in_turn (select tables query w) (λ form. pure (judged.CheckPlan file form)) work w' e in
+    subst (IsReady tables (s.CheckPlan file query)) (done_value turn.ended) (query, refl)
 
 -- ---- numbers in their ranges
 
@@ -253,6 +277,9 @@ done_ready tables (s.Hand name rows cols) work w' built e = hand_ready tables (s
 done_ready tables (s.Budget amount) work w' built e = budget_ready tables (s.Budget amount) amount beginning work w' e
 done_ready tables (s.Cost part amount) work w' built e = cost_ready tables (s.Cost part amount) part amount beginning work w' e
 done_ready tables (s.Select query) work w' built e = select_ready tables query beginning work w' e
+done_ready tables (s.Explain query) work w' built e = explain_ready tables query beginning work w' e
+done_ready tables (s.ExplainJson query) work w' built e = json_ready tables query beginning work w' e
+done_ready tables (s.CheckPlan file query) work w' built e = check_ready tables file query beginning work w' e
 done_ready tables _ work w' built e = absurd (false≢true built)
 
 -- what a judged statement does is as the tables allow it
@@ -271,6 +298,9 @@ CanDo tables (judged.Hand name rows cols) = IsSome (table_named name tables) × 
 CanDo tables (judged.Budget amount) = (1 ≤ amount) × (amount ≤ 100000)
 CanDo tables (judged.Cost part amount) = (1 ≤ amount) × (amount ≤ 1000)
 CanDo tables (judged.Select form) = ⊤
+CanDo tables (judged.Explain form) = ⊤
+CanDo tables (judged.ExplainJson form) = ⊤
+CanDo tables (judged.CheckPlan file form) = ⊤
 CanDo tables _ = ⊥
 
 can_do : (tables : Tables) (statement : Statement) (work : Judged) → statement_written statement ≡ true → IsReady tables statement work → CanDo tables work
@@ -282,22 +312,58 @@ can_do tables statement (judged.Hand name rows cols) written ready = ready
 can_do tables statement (judged.Budget amount) written ready = ready
 can_do tables statement (judged.Cost part amount) written ready = ready
 can_do tables statement (judged.Select form) written ready = tt
+can_do tables statement (judged.Explain form) written ready = tt
+can_do tables statement (judged.ExplainJson form) written ready = tt
+can_do tables statement (judged.CheckPlan file form) written ready = tt
 can_do tables statement _ written ready = absurd ready
 
 pub CanDo-prepared : (tables : Tables) (work : Judged) → IsPrepared tables work → CanDo tables work
 CanDo-prepared tables work (statement, written, prepares) = can_do tables statement work written (IsReady-judged tables statement work prepares.built prepares.right)
 
--- nothing else is prepared
-pub no_other : (tables : Tables) (work : Judged) → CanDo tables work → ((table : Table) → work ≡ judged.Create table → ⊥) → ((name : List ℕ) → work ≡ judged.Drop name → ⊥)
+-- nothing else is prepared whose query is not planned
+pub no_other : (tables : Tables) (work : Judged) → CanDo tables work → planned_form work ≡ None → ((table : Table) → work ≡ judged.Create table → ⊥) → ((name : List ℕ) → work ≡ judged.Drop name → ⊥)
     → ((name file : List ℕ) → work ≡ judged.Load name file → ⊥) → ((name : List ℕ) → work ≡ judged.Measure name → ⊥)
     → ((name : List ℕ) (rows : ℕ) (cols : Numbers) → work ≡ judged.Hand name rows cols → ⊥) → ((amount : ℕ) → work ≡ judged.Budget amount → ⊥)
-    → ((part : CostPart) (amount : ℕ) → work ≡ judged.Cost part amount → ⊥) → ((form : JudgedSelect) → work ≡ judged.Select form → ⊥) → ⊥
-no_other tables (judged.Create table) can creates drops loads measures hands budgets costs selects = creates table refl
-no_other tables (judged.Drop name) can creates drops loads measures hands budgets costs selects = drops name refl
-no_other tables (judged.Load name file) can creates drops loads measures hands budgets costs selects = loads name file refl
-no_other tables (judged.Measure name) can creates drops loads measures hands budgets costs selects = measures name refl
-no_other tables (judged.Hand name rows cols) can creates drops loads measures hands budgets costs selects = hands name rows cols refl
-no_other tables (judged.Budget amount) can creates drops loads measures hands budgets costs selects = budgets amount refl
-no_other tables (judged.Cost part amount) can creates drops loads measures hands budgets costs selects = costs part amount refl
-no_other tables (judged.Select form) can creates drops loads measures hands budgets costs selects = selects form refl
-no_other tables _ can creates drops loads measures hands budgets costs selects = can
+    → ((part : CostPart) (amount : ℕ) → work ≡ judged.Cost part amount → ⊥) → ((file : List ℕ) (form : JudgedSelect) → work ≡ judged.CheckPlan file form → ⊥) → ⊥
+no_other tables (judged.Create table) can none creates drops loads measures hands budgets costs checks = creates table refl
+no_other tables (judged.Drop name) can none creates drops loads measures hands budgets costs checks = drops name refl
+no_other tables (judged.Load name file) can none creates drops loads measures hands budgets costs checks = loads name file refl
+no_other tables (judged.Measure name) can none creates drops loads measures hands budgets costs checks = measures name refl
+no_other tables (judged.Hand name rows cols) can none creates drops loads measures hands budgets costs checks = hands name rows cols refl
+no_other tables (judged.Budget amount) can none creates drops loads measures hands budgets costs checks = budgets amount refl
+no_other tables (judged.Cost part amount) can none creates drops loads measures hands budgets costs checks = costs part amount refl
+no_other tables (judged.Select form) can none creates drops loads measures hands budgets costs checks = absurd (none-some form (sym none))
+no_other tables (judged.Explain form) can none creates drops loads measures hands budgets costs checks = absurd (none-some form (sym none))
+no_other tables (judged.ExplainJson form) can none creates drops loads measures hands budgets costs checks = absurd (none-some form (sym none))
+no_other tables (judged.CheckPlan file form) can none creates drops loads measures hands budgets costs checks = checks file form refl
+no_other tables _ can none creates drops loads measures hands budgets costs checks = can
+
+-- a query that is planned is that of a SELECT, an EXPLAIN or an EXPLAIN JSON
+pub no_query : (work : Judged) (form : JudgedSelect) → planned_form work ≡ Some form → ((form : JudgedSelect) → work ≡ judged.Select form → ⊥) → ((form : JudgedSelect) → work ≡ judged.Explain form → ⊥)
+    → ((form : JudgedSelect) → work ≡ judged.ExplainJson form → ⊥) → ⊥
+no_query (judged.Select found) form planned selects explains prints = selects found refl
+no_query (judged.Explain found) form planned selects explains prints = explains found refl
+no_query (judged.ExplainJson found) form planned selects explains prints = prints found refl
+no_query _ form planned selects explains prints = absurd (none-some form planned)
+
+-- ---- the query that is planned
+
+-- the numbered form of the SELECT that a statement holds
+pub Judges-query : (tables : Tables) (statement : Statement) (work : Judged) (form : JudgedSelect) → IsReady tables statement work → judgement tables statement ≡ Ok work → statement_written statement ≡ true → judged_select_of work ≡ Some form
+    → (query : Select) × ((query_written query.query ≡ true) × Judges tables statement query form)
+Judges-query tables statement (judged.Select found) form ready right written gives =
+    (ready.0, (sym (ap statement_written ready.1) ∙ written, record { holds = ap select_of ready.1; work = judged.Select found; right = right; gives = gives }))
+Judges-query tables statement (judged.Explain found) form ready right written gives =
+    (ready.0, (sym (ap statement_written ready.1) ∙ written, record { holds = ap select_of ready.1; work = judged.Explain found; right = right; gives = gives }))
+Judges-query tables statement (judged.ExplainJson found) form ready right written gives =
+    (ready.0, (sym (ap statement_written ready.1) ∙ written, record { holds = ap select_of ready.1; work = judged.ExplainJson found; right = right; gives = gives }))
+Judges-query tables statement (judged.CheckPlan file found) form ready right written gives =
+    (ready.0, (sym (ap statement_written ready.1) ∙ written, record { holds = ap select_of ready.1; work = judged.CheckPlan file found; right = right; gives = gives }))
+Judges-query tables statement (judged.Profile found) form ready right written gives = absurd ready
+Judges-query tables statement _ form ready right written gives = absurd (none-some form gives)
+
+-- its tree can be planned
+pub prepared-plannable : (tables : Tables) → HaveColumns tables → (work : Judged) → IsPrepared tables work → (form : JudgedSelect) → judged_select_of work ≡ Some form → IsPlannable tables (bound form.query)
+prepared-plannable tables have work (statement, written, prepares) form gives =
+    let held = Judges-query tables statement work form (IsReady-judged tables statement work prepares.built prepares.right) prepares.right written gives in
+    bound-plannable (record { tables = tables; rows = λ name. [] }) statement held.0 form have held.1.0 held.1.1

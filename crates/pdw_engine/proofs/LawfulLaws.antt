@@ -14,17 +14,18 @@ use Rattle.pdw_catalog.specs.Database.{undivided}
 use Rattle.pdw_catalog.specs.declared.table.Table.{Table}
 use Rattle.pdw_engine.proofs.JudgedLaws.{IsReady-judged}
 use Rattle.pdw_engine.proofs.PlainLemmas.{SamePlain-refl}
-use Rattle.pdw_engine.specs.Executes.{Gives, IsGiven, Selects, SelectsBy}
+use Rattle.pdw_engine.specs.Executes.{Gives, IsGiven, Printed, Selects, SelectsBy, Shown}
 use Rattle.pdw_engine.specs.Plain.{Plain, plain_of}
 use Rattle.pdw_engine.specs.Prepared.{Prepares}
 use Rattle.pdw_engine.specs.Selected.{SelectedBy}
 use Rattle.pdw_engine.specs.State.{State}
-use Rattle.pdw_engine.specs.declared.answer.Answer.{Answer}
-use Rattle.pdw_engine.specs.declared.answer.Answer.TheVariants.{Rows}
-use Rattle.pdw_engine.specs.declared.answer.Table1.{Table1}
+use Rattle.pdw_answer.specs.declared.answer.Answer.{Answer}
+use Rattle.pdw_answer.specs.declared.answer.Answer.TheVariants.{Rows}
+use Rattle.pdw_answer.specs.declared.answer.Table1.{Table1}
 use Rattle.pdw_names.proofs.AcceptedLaw.{accepted_names, accepted_order}
 use Rattle.pdw_semantics.specs.Answer.{IsOrdered}
 use Rattle.pdw_walk.specs.Statements.{judgement}
+use Rattle.pdw_ways.specs.declared.plan.Plan.{Plan}
 use Rattle.pdw_form.specs.declared.judged.Judged.TheVariants as judged
 use Rattle.pdw_form.specs.declared.judged.JudgedSelect.{JudgedSelect}
 
@@ -78,3 +79,13 @@ Gives-selected old new form answer selects file given statement written prepares
       given = given;
       does = subst (λ (is : Statement). statement_written is ≡ true → judgement old.tables is ≡ Ok (judged.Select form) → SelectsBy old is answer new) (sym ready.1) (selects ready.0) written prepares.right;
     }
+
+-- what is judged to be an EXPLAIN, an EXPLAIN JSON or a CHECK PLAN answers so
+module _ (plain : Plain) (form : JudgedSelect) (answer : Answer) (statement : Statement) where
+  pub Gives-explained : (plan : Plan) → Shown plain form plan answer → (file : Option (List ℕ)) → IsGiven (judged.Explain form) file → Prepares plain.tables statement (judged.Explain form) → Gives plain statement file answer plain
+  Gives-explained plan shown file given prepares =
+      record { work = judged.Explain form; prepares = prepares; given = given; does = (plan, shown, SamePlain-refl plain) }
+
+  pub Gives-printed : (plan : Plan) → Printed plain form plan answer → (file : Option (List ℕ)) → IsGiven (judged.ExplainJson form) file → Prepares plain.tables statement (judged.ExplainJson form) → Gives plain statement file answer plain
+  Gives-printed plan printed file given prepares =
+      record { work = judged.ExplainJson form; prepares = prepares; given = given; does = (plan, printed, SamePlain-refl plain) }

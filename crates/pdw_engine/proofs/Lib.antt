@@ -12,6 +12,8 @@ pub mod LawfulLaws
 pub mod SamePlains
 -- What a session keeps stays in order
 pub mod StateLemmas
+-- What queries are planned over, as the code hands it on and as the session keeps it
+pub mod BasisLemmas
 -- What is measured of rows that fit a table is in its ranges
 pub mod ReachableRows
 -- A book that tells the statistics of each name, after those of one name have changed

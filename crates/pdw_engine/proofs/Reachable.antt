@@ -8,7 +8,7 @@ use Rattle.pdw_engine.specs.Plain.{Plain, SamePlain, plain_of, start}
 use Rattle.pdw_engine.specs.Reachable.{AllowsPlans, IsReachable}
 use Rattle.pdw_engine.specs.Reachable.IsReachable.{begun, done, same}
 use Rattle.pdw_engine.specs.State.{first_state}
-use Rattle.pdw_engine.specs.declared.answer.Answer.{Answer}
+use Rattle.pdw_answer.specs.declared.answer.Answer.{Answer}
 use Rattle.pdw_syntax.specs.Written.{statement_written}
 use Rattle.pdw_syntax.specs.declared.statement.Statement.{Statement}
 

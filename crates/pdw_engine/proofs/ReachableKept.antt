@@ -22,7 +22,7 @@ use Rattle.pdw_engine.specs.Names.{HaveOwnNames}
 use Rattle.pdw_engine.specs.Plain.{Plain, SamePlain, budget_set, constant_set, measured_in, rows_with, start, stats_with, with_handed, with_measured, with_rows, with_settings, with_table, without_table}
 use Rattle.pdw_engine.specs.Settings.{AreAllowed, with_budget, with_constant}
 use Rattle.pdw_engine.specs.Statistics.{AreNumbers, Numbers, handed}
-use Rattle.pdw_engine.specs.declared.answer.Answer.{Answer}
+use Rattle.pdw_answer.specs.declared.answer.Answer.{Answer}
 use Rattle.pdw_engine.specs.declared.settings.Settings.{Settings}
 use Rattle.pdw_form.specs.declared.judged.Judged.{Judged}
 use Rattle.pdw_form.specs.declared.judged.Judged.TheVariants as judged
@@ -208,4 +208,8 @@ module _ (nodes : ℕ) where
         IsKept-same (constant_set part amount old) new does.1 (kept-settings old kept (with_constant part amount old.settings) (AreAllowed-constant part amount old.settings can kept.settings))
     IsKept-done (s.Select select) (judged.Select form) file can does = IsKept-same old new does.same kept
     IsKept-done _ (judged.Select form) file can does = absurd does
+    IsKept-done statement (judged.Explain form) file can does = IsKept-same old new does.2 kept
+    IsKept-done statement (judged.ExplainJson form) file can does = IsKept-same old new does.2 kept
+    IsKept-done statement (judged.CheckPlan wanted form) None can does = absurd does
+    IsKept-done statement (judged.CheckPlan wanted form) (Some content) can does = IsKept-same old new does.same kept
     IsKept-done statement _ file can does = absurd does

@@ -12,7 +12,7 @@ use Rattle.pdw_engine.specs.Plain.{Plain, SamePlain, measured_in, rows_with, sta
 use Rattle.pdw_engine.specs.Settings.{with_budget, with_constant}
 use Rattle.pdw_engine.specs.Statistics.{Numbers, handed}
 use Rattle.pdw_engine.specs.declared.settings.Settings.{Settings}
-use Rattle.pdw_engine.specs.declared.answer.Answer.{Answer}
+use Rattle.pdw_answer.specs.declared.answer.Answer.{Answer}
 use Rattle.pdw_form.specs.declared.judged.Judged.{Judged}
 use Rattle.pdw_form.specs.declared.judged.Judged.TheVariants as judged
 use Rattle.pdw_load.specs.Records.{records_of, rows_of}
@@ -150,4 +150,8 @@ module _ (some other : Plain) (same : SamePlain some other) where
       between _ _ left right (with_settings-same (with_constant part amount some.settings) (with_constant part amount other.settings) (ap (with_constant part amount) same.settings)) first.1 second.1
   does_same (s.Select select) one two left right (judged.Select form) file first second = between some other left right same first.same second.same
   does_same _ one two left right (judged.Select form) file first second = absurd first
+  does_same statement one two left right (judged.Explain form) file first second = between some other left right same first.2 second.2
+  does_same statement one two left right (judged.ExplainJson form) file first second = between some other left right same first.2 second.2
+  does_same statement one two left right (judged.CheckPlan wanted form) None first second = absurd first
+  does_same statement one two left right (judged.CheckPlan wanted form) (Some content) first second = between some other left right same first.same second.same
   does_same statement one two left right _ file first second = absurd first

@@ -8,6 +8,9 @@ pub mod Names
 pub mod State
 pub mod Plain
 pub mod Prepared
+-- what statements are prepared to
+pub mod Ready
 pub mod Executes
 pub mod Selected
+-- the plain states that a script reaches
 pub mod Reachable

@@ -4,10 +4,10 @@ use Rattle.pdw_syntax.specs.declared.statement.Statement.{Statement}
 use Rattle.pdw_syntax.specs.declared.statement.Statement.TheVariants as s
 use Rattle.pdw_syntax.specs.Written.{statement_written}
 use Rattle.pdw_catalog.specs.Catalog.{Tables}
-use Rattle.pdw_engine.specs.declared.refusal.Refusal.{Refusal}
-use Rattle.pdw_engine.specs.declared.refusal.Refusal.TheVariants as refusal
-use Rattle.pdw_engine.specs.declared.refusal.Stop.{Stop}
-use Rattle.pdw_engine.specs.declared.refusal.Stop.TheVariants.{Refused, Memory}
+use Rattle.pdw_answer.specs.declared.refusal.Refusal.{Refusal}
+use Rattle.pdw_answer.specs.declared.refusal.Refusal.TheVariants as refusal
+use Rattle.pdw_engine.specs.declared.stop.Stop.{Stop}
+use Rattle.pdw_engine.specs.declared.stop.Stop.TheVariants.{Refused, Memory}
 use Rattle.pdw_walk.specs.Statements.{judgement}
 use Rattle.pdw_walk.specs.declared.fault.JudgeFault.TheVariants as fault
 use Rattle.pdw_form.specs.declared.judged.Judged.{Judged}
@@ -23,6 +23,9 @@ is_built (s.Hand table rows cols) = true
 is_built (s.Budget amount) = true
 is_built (s.Cost part amount) = true
 is_built (s.Select select) = true
+is_built (s.Explain select) = true
+is_built (s.ExplainJson select) = true
+is_built (s.CheckPlan file select) = true
 is_built _ = false
 
 -- the file that is wanted

@@ -3,7 +3,7 @@ use Rattle.std.specs.Prelude.{◌≡◌, ℕ, ◌≤◌, true, List, Option}
 use Rattle.pdw_engine.specs.Executes.{Gives}
 use Rattle.pdw_engine.specs.Plain.{Plain, SamePlain, start}
 use Rattle.pdw_engine.specs.Settings.{AreAllowed}
-use Rattle.pdw_engine.specs.declared.answer.Answer.{Answer}
+use Rattle.pdw_answer.specs.declared.answer.Answer.{Answer}
 use Rattle.pdw_form.specs.Sound.{HaveColumns}
 use Rattle.pdw_stats.specs.Book.{AreInRange, Book, stats_of}
 use Rattle.pdw_syntax.specs.Written.{statement_written}

@@ -5,7 +5,7 @@ use Rattle.pdw_algebra.specs.Meaning.{rows_of}
 use Rattle.pdw_base.specs.declared.value.Value.{Value}
 use Rattle.pdw_bind.specs.Bind.{bound}
 use Rattle.pdw_catalog.specs.Database.{Database}
-use Rattle.pdw_engine.specs.declared.answer.Table1.{Table1}
+use Rattle.pdw_answer.specs.declared.answer.Table1.{Table1}
 use Rattle.pdw_expr.specs.Rows.{key_of}
 use Rattle.pdw_semantics.specs.Answer.{IsOrdered}
 use Rattle.pdw_form.specs.Numbered.{outs_of}

@@ -8,8 +8,8 @@ ghost use Rattle.pdw_interpreter.specs.Relation.{environments};
 ghost use Rattle.pdw_expr.specs.Rows.{key_of};
 ghost use Rattle.pdw_form.specs.Numbered.{outs_of};
 
-use crate::answer::Table1;
 use crate::order::ordered;
+use pdw_answer::Table1;
 use pdw_base::{NoMemory, Row, Str};
 use pdw_bind::bind;
 use pdw_catalog::Appliance;

@@ -1,39 +1,47 @@
 //! Sessions: the appliance with what its statements change.
 
-ghost use Rattle.std.specs.Prelude.{◌≡◌, ◌≤◌, true, Ok, IfOk, IfErr, OnErr, OnOk};
+ghost use Rattle.std.specs.Prelude.{◌≡◌, ◌≤◌, ℕ, List, Option, Some, None, true, Ok, IfOk, IfErr, OnErr, OnOk};
+ghost use Rattle.std.specs.List.{AllByRecursion};
 ghost use Rattle.std.specs.Option.{option_copied};
+ghost use Rattle.pdw_bind.specs.Bind.{bound};
+ghost use Rattle.pdw_memo.specs.Memo.{IsPlannable};
+ghost use Rattle.pdw_move.specs.Cost.{AreInRange};
 ghost use Rattle.pdw_syntax.specs.declared.query.Select.{Select as SelectOf};
 ghost use Rattle.pdw_syntax.specs.declared.statement.Statement.TheVariants as statements;
 ghost use Rattle.pdw_syntax.specs.declared.statement.Statement.{Statement as StatementOf};
 ghost use Rattle.pdw_form.specs.Sound.{HaveColumns};
 ghost use Rattle.pdw_syntax.specs.Written.{query_written, statement_written};
 ghost use Rattle.pdw_catalog.specs.Appliance.{CanCreate, HasTable};
-ghost use Rattle.pdw_engine.specs.Executes.{Gives, IsGiven, LoadsContent, Selects, StopsLoad, StopsWork};
+ghost use Rattle.pdw_engine.specs.Executes.{ChecksContent, Gives, IsGiven, LoadsContent, Printed, Selects, Shown, Shows, StopsLoad, StopsWork};
 ghost use Rattle.pdw_engine.specs.Plain.{SamePlain, budget_set, constant_set, plain_of, with_handed, with_measured, with_table, without_table};
 ghost use Rattle.pdw_engine.specs.Prepared as spec;
-ghost use Rattle.pdw_engine.specs.declared.answer.Answer.TheVariants as answers;
+ghost use Rattle.pdw_answer.specs.declared.answer.Answer.TheVariants as answers;
 ghost use Rattle.pdw_engine.specs.Prepared.{IsPrepared, Prepares, StopsFirst};
+ghost use Rattle.pdw_engine.specs.Ready.{HasPlan, IsPlannedIn, planned_form, plans_in};
 ghost use Rattle.pdw_engine.specs.State.{first_state};
 ghost use Rattle.pdw_engine.specs.Statistics.{AreNumbers};
 ghost use Rattle.pdw_walk.specs.Statements.{judgement};
 ghost use Rattle.pdw_form.specs.declared.judged.Judged.TheVariants as judged;
 
-use crate::answer::Answer;
 use crate::prepared::{Prepared, with_want};
-use crate::refusal::{Refusal, Stop};
 use crate::select::select;
 use crate::settings::Settings;
 use crate::statistics::handed;
+use crate::stop::Stop;
+use pdw_answer::{Answer, Refusal};
+use pdw_answering::{check_query, explain_planned, print_planned};
 use pdw_base::{NoMemory, NodeCount, Str};
 use pdw_catalog::{Appliance, Table};
 use pdw_form::{Judged, JudgedSelect};
 use pdw_load::{LoadError, read_table};
+use pdw_planner::{Ground, Planned, plan_query};
 use pdw_scope::judge;
 use pdw_stats::{StatsBook, default_stats, measure};
 use pdw_syntax::{CostPart, Statement};
 use pdw_walk::JudgeFault;
 use std::alloc::Global;
 use std::marker::Model;
+use std::mem::drop;
 
 /// An appliance, the statistics of its tables and the settings, and what is executed over them.
 #[derive(Drop)]
@@ -71,38 +79,132 @@ impl Session {
         &self.appliance
     }
 
-    /// What a statement does, or why it is refused: a form that can't be executed yet, or else its first fault.
-    /// No statement that the grammar gives fails the condition.
+    /// What a statement does, with a least plan of its query, or why it is refused: a form that can't be executed yet, or else
+    /// its first fault. No statement that the grammar gives fails the condition.
     pub fn prepare(&self, alloc: Global, stmt: &Statement) -> Result<Prepared, Stop>
         requires { statement_written stmt.now ≡ true }
-        ensures prepared { IfOk result (λ prepared. Prepares self.now.contents.tables stmt.now prepared) }
+        ensures prepared { IfOk result (λ prepared. Prepares self.now.contents.tables stmt.now prepared.work) }
+        ensures planned { IfOk result (HasPlan self.now) }
         ensures stop { IfErr result (StopsFirst self.now.contents.tables stmt.now) }
     {
         if !is_built(stmt) {
             return Err(Stop::Refused(Refusal::NotBuilt));
         }
         match judge(alloc, self.appliance.catalog(), stmt) {
-            Ok(work) => Ok(with_want(alloc, work)?),
+            Ok(work) => Ok(self.with_plan(alloc, work)?),
             Err(JudgeFault::Memory) => Err(Stop::Memory),
             Err(fault) => Err(Stop::Refused(Refusal::Judge(fault))),
         }
     }
 
-    /// Executes a statement that was prepared in this state, with the content of the file that it wants. Where it gives no
-    /// answer, the session is as it was; LOAD alone may be refused here.
+    // A judged statement with the plan of its query.
+    fn with_plan(&self, alloc: Global, work: Judged) -> Result<Prepared, NoMemory>
+        requires { IsPrepared self.now.contents.tables work }
+        ensures work { IfOk result (λ prepared. prepared.work ≡ work) }
+        ensures planned { IfOk result (HasPlan self.now) }
+    {
+        match self.plan_of(alloc, &work) {
+            Ok(planned) => with_want(alloc, work, planned),
+            Err(error) => {
+                drop(work);
+                Err(error)
+            }
+        }
+    }
+
+    // What the query of a judged statement is planned to, where it is one whose query is planned.
+    fn plan_of(&self, alloc: Global, work: &Judged) -> Result<Option<Planned>, NoMemory>
+        requires { IsPrepared self.now.contents.tables work.now }
+        ensures { IfOk result (IsPlannedIn self.now (planned_form work.now)) }
+    {
+        self.tables_have_columns();
+        match work {
+            Judged::Select(form) | Judged::Explain(form) | Judged::ExplainJson(form) => {
+                Ok(Some(self.planned(alloc, form)?))
+            }
+            _ => Ok(None),
+        }
+    }
+
+    // A least plan of a query.
+    fn planned(&self, alloc: Global, form: &JudgedSelect) -> Result<Planned, NoMemory>
+        requires { IsPlannable self.now.contents.tables (bound form.now.query) }
+        ensures { IfOk result (λ planned. IsPlannedIn self.now (Some form.now) (Some planned)) }
+    {
+        plan_query(alloc, &form.query, &self.basis())
+    }
+
+    // What queries are planned over.
+    fn basis(&self) -> Ground<'_>
+        ensures catalog { result.catalog.now ≡ self.now.contents.tables }
+        ensures book { result.book.now ≡ self.now.book }
+        ensures nodes { result.n ≡ self.now.contents.nodes }
+        ensures budget { result.budget ≡ self.now.settings.budget }
+        ensures constants { result.constants.now ≡ self.now.settings.constants }
+        ensures range { AreInRange self.now.settings.constants }
+    {
+        Ground {
+            catalog: self.appliance.catalog(),
+            book: &self.book,
+            n: self.appliance.nodes(),
+            budget: self.settings.budget,
+            constants: &self.settings.constants,
+        }
+    }
+
+    /// Executes a statement that was prepared in this state, with the content of the file that it wants. EXPLAIN and EXPLAIN JSON
+    /// show the plan with which it was prepared. Where it gives no answer, the session is as it was; LOAD alone may be refused here.
     pub fn execute(
         &mut self,
         alloc: Global,
         p: Prepared,
         file: Option<&[u8]>,
     ) -> Result<Answer, Stop>
-        requires prepared { IsPrepared self.old.contents.tables p }
-        requires given { IsGiven p (option_copied file) }
-        ensures answer { IfOk result (λ answer. (statement : StatementOf) → statement_written statement ≡ true → Prepares self.old.contents.tables statement p → Gives (plain_of self.old) statement (option_copied file.entry) answer (plain_of self.new)) }
-        ensures stop { IfErr result (StopsWork (plain_of self.old) p (option_copied file.entry)) }
+        requires prepared { IsPrepared self.old.contents.tables p.work }
+        requires planned { HasPlan self.old p }
+        requires given { IsGiven p.work (option_copied file) }
+        ensures answer { IfOk result (λ answer. (statement : StatementOf) → statement_written statement ≡ true → Prepares self.old.contents.tables statement p.work → Gives (plain_of self.old) statement (option_copied file.entry) answer (plain_of self.new)) }
+        ensures shown { IfOk result (λ answer. AllByRecursion (λ plan. Shows (plain_of self.old) p.work plan answer) (plans_in p.planned)) }
+        ensures stop { IfErr result (StopsWork (plain_of self.old) p.work (option_copied file.entry)) }
         ensures kept { OnErr result (self.new ≡ self.old) }
     {
-        match p.into_work() {
+        match p.into_parts() {
+            (work, Some(planned)) => {
+                let answer = self.ask(alloc, &work, planned);
+                drop(work);
+                Ok(answer?)
+            }
+            (work, None) => self.act(alloc, work, file),
+        }
+    }
+
+    // What a query answers that was planned in this state.
+    fn ask(&self, alloc: Global, work: &Judged, planned: Planned) -> Result<Answer, NoMemory>
+        requires prepared { IsPrepared self.now.contents.tables work.now }
+        requires planned { IsPlannedIn self.now (planned_form work.now) (Some planned) }
+        ensures answer { IfOk result (λ answer. (statement : StatementOf) → statement_written statement ≡ true → Prepares self.now.contents.tables statement work.now → (file : Option (List ℕ)) → IsGiven work.now file → Gives (plain_of self.now) statement file answer (plain_of self.now)) }
+        ensures shown { IfOk result (Shows (plain_of self.now) work.now planned.plan) }
+    {
+        self.tables_have_columns();
+        match work {
+            Judged::Select(form) => self.select(alloc, form),
+            Judged::Explain(form) => self.explain(alloc, form, &planned),
+            Judged::ExplainJson(form) => self.explain_json(alloc, form, planned),
+            _ => unreachable!(),
+        }
+    }
+
+    // Does what has no query.
+    fn act(&mut self, alloc: Global, work: Judged, file: Option<&[u8]>) -> Result<Answer, Stop>
+        requires prepared { IsPrepared self.old.contents.tables work }
+        requires unplanned { planned_form work ≡ None }
+        requires given { IsGiven work (option_copied file) }
+        ensures answer { IfOk result (λ answer. (statement : StatementOf) → statement_written statement ≡ true → Prepares self.old.contents.tables statement work → Gives (plain_of self.old) statement (option_copied file.entry) answer (plain_of self.new)) }
+        ensures stop { IfErr result (StopsWork (plain_of self.old) work (option_copied file.entry)) }
+        ensures kept { OnErr result (self.new ≡ self.old) }
+    {
+        self.tables_have_columns();
+        match work {
             Judged::Create(table) => Ok(self.create(alloc, table)?),
             Judged::Drop(name) => Ok(self.drop_table(&name)),
             Judged::Load { table, .. } => self.load(alloc, &table, file.unwrap()),
@@ -112,7 +214,9 @@ impl Session {
             }
             Judged::Budget(amount) => Ok(self.set_budget(amount)),
             Judged::Cost { part, amount } => Ok(self.set_constant(part, amount)),
-            Judged::Select(form) => Ok(self.select(alloc, &form)?),
+            Judged::CheckPlan { select, .. } => {
+                Ok(self.check_plan(alloc, &select, file.unwrap())?)
+            }
             _ => unreachable!(),
         }
     }
@@ -227,6 +331,48 @@ impl Session {
         Ok(Answer::Rows(select(alloc, &self.appliance, form)?))
     }
 
+    // The text of the plan of an EXPLAIN, which has this numbered form.
+    fn explain(
+        &self,
+        alloc: Global,
+        form: &JudgedSelect,
+        planned: &Planned,
+    ) -> Result<Answer, NoMemory>
+        requires plannable { IsPlannable self.now.contents.tables (bound form.now.query) }
+        requires planned { IsPlannedIn self.now (Some form.now) (Some planned.now) }
+        ensures { IfOk result (Shown (plain_of self.now) form.now planned.now.plan) }
+    {
+        Ok(Answer::Plan(explain_planned(alloc, planned, &self.basis())?))
+    }
+
+    // The plan file of an EXPLAIN JSON, which has this numbered form.
+    fn explain_json(
+        &self,
+        alloc: Global,
+        form: &JudgedSelect,
+        planned: Planned,
+    ) -> Result<Answer, NoMemory>
+        requires plannable { IsPlannable self.now.contents.tables (bound form.now.query) }
+        requires planned { IsPlannedIn self.now (Some form.now) (Some planned) }
+        ensures { IfOk result (Printed (plain_of self.now) form.now planned.plan) }
+    {
+        Ok(Answer::Json(print_planned(alloc, planned, &self.basis())?))
+    }
+
+    // What is found of a plan file for the query of this numbered form.
+    fn check_plan(
+        &self,
+        alloc: Global,
+        form: &JudgedSelect,
+        content: &[u8],
+    ) -> Result<Answer, NoMemory>
+        requires { IsPlannable self.now.contents.tables (bound form.now.query) }
+        ensures { IfOk result (λ answer. ChecksContent (plain_of self.now) form.now content.now answer (plain_of self.now)) }
+    {
+        let verdict = check_query(alloc, &form.query, content, &self.basis())?;
+        Ok(Answer::Checked(verdict))
+    }
+
     // What the law of the tree asks of tables.
     fn tables_have_columns(&self)
         ensures { HaveColumns self.now.contents.tables }
@@ -249,5 +395,8 @@ fn is_built(statement: &Statement) -> bool
             | Statement::Budget(_)
             | Statement::Cost { .. }
             | Statement::Select(_)
+            | Statement::Explain(_)
+            | Statement::ExplainJson(_)
+            | Statement::CheckPlan { .. }
     )
 }

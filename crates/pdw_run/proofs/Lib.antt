@@ -1,7 +1,5 @@
 -- Lists of three items
 pub mod WordLemmas
--- Texts that are made of the texts of items
-pub mod TextLemmas
 -- A script says at most one thing
 pub mod ReadingLemmas
 -- The statements of a script are written whole
@@ -12,6 +10,8 @@ pub mod PerformLemmas
 pub mod RunLemmas
 -- A run that meets no fault is done, or wants memory; one that cannot be done is refused, or wants memory
 pub mod CompleteLemmas
+-- Every EXPLAIN has a text
+pub mod Explained
 -- Any rows can be put into an order that the keys allow
 pub mod OrderedRows
 -- The judgement has no want of memory as a fault: whatever it refuses, it names

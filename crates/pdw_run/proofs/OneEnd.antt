@@ -1,18 +1,18 @@
 -- Over files that tell every name, no script has both a finished output and one that ends with a refusal.
-use Rattle.std.proofs.Common.{◌≡◌, ◌⊎◌, inl, inr, ℕ, ◌<◌, ◌≤◌, ◌+◌, Bool, true, false, List, [], ◌∷◌, length, refl, sym, ap, subst, ◌∙◌, arith, Option, Some, None, IsSome, Result, Ok, Err, true≢false}
+use Rattle.std.proofs.Common.{◌≡◌, inl, inr, ℕ, ◌≤◌, ◌+◌, List, [], ◌∷◌, length, refl, sym, ap, subst, ◌∙◌, arith, Option, Some, None, IsSome, Result, Ok, Err, true≢false}
 use Rattle.std.specs.Bool.{⊤}
 use Rattle.pdw_base.proofs.SameBagLaws.{SameBag-length}
 use Rattle.pdw_catalog.specs.Catalog.{table_named}
-use Rattle.pdw_catalog.specs.Table.{Row, most_rows}
+use Rattle.pdw_catalog.specs.Table.{most_rows}
 use Rattle.pdw_catalog.specs.declared.table.Table.{Table}
 use Rattle.pdw_engine.proofs.SamePlains.{does_same}
 use Rattle.pdw_engine.proofs.PlainLemmas.{SamePlain-refl}
 use Rattle.pdw_engine.specs.Executes.{Does, IsGiven, LoadsContent, RefusesContent}
 use Rattle.pdw_engine.specs.Plain.{Plain, SamePlain, start}
 use Rattle.pdw_engine.specs.Prepared.{Prepares, RefusesFirst, wanted}
-use Rattle.pdw_engine.specs.declared.answer.Answer.{Answer}
-use Rattle.pdw_engine.specs.declared.refusal.Refusal.{Refusal}
-use Rattle.pdw_engine.specs.declared.refusal.Refusal.TheVariants as refusal
+use Rattle.pdw_answer.specs.declared.answer.Answer.{Answer}
+use Rattle.pdw_answer.specs.declared.refusal.Refusal.{Refusal}
+use Rattle.pdw_answer.specs.declared.refusal.Refusal.TheVariants as refusal
 use Rattle.pdw_base.specs.declared.limits.TheConstants.{MOST_FILE_BYTES}
 use Rattle.pdw_form.specs.declared.judged.Judged.{Judged}
 use Rattle.pdw_form.specs.declared.judged.Judged.TheVariants as judged
@@ -20,7 +20,7 @@ use Rattle.pdw_load.specs.Records.{faults_of, records_of}
 use Rattle.pdw_load.specs.declared.load_error.LoadError.{LoadError}
 use Rattle.pdw_outside.specs.Whole.{IsContent}
 use Rattle.pdw_run.proofs.ReadingLemmas.{IsScript-faultless, IsScript-unique}
-use Rattle.pdw_run.specs.Output.{End, FailsContent, Fails, Finished, Gives, Held, IsTold, Outputs, Refused, Refuses, ScriptWrites, Writes}
+use Rattle.pdw_run.specs.Output.{FailsContent, Fails, Finished, Gives, Held, IsTold, Outputs, Refused, Refuses, ScriptWrites, Writes}
 use Rattle.pdw_run.specs.Trace.{Trace}
 use Rattle.pdw_syntax.specs.declared.statement.Statement.{Statement}
 use Rattle.pdw_walk.specs.Statements.{judgement}
@@ -107,7 +107,13 @@ module _ (held : Held) (told : (name : List ℕ) → IsSome (held name)) (some o
       let found = one_content (held wants) (told wants) content fails.content tells read in
       not_failed some other same statement (judged.Load name wants) content answer new given does k line
       (subst (λ c. FailsContent k other (judged.Load name wants) c line) (sym found) fails.fault)
-  not_done_and_failed (judged.CheckPlan file select) given answer new short tells does k line fails = absurd does
+  not_done_and_failed (judged.CheckPlan wants form) None answer new given tells does k line fails = absurd tells
+  not_done_and_failed (judged.CheckPlan wants form) (Some content) answer new given tells does k line fails =
+      let is = ap (some_value wants) fails.wants in
+      let read = subst (λ file. IsContent (held file) fails.content) (sym is) fails.told in
+      let found = one_content (held wants) (told wants) content fails.content tells read in
+      not_failed some other same statement (judged.CheckPlan wants form) content answer new given does k line
+      (subst (λ c. FailsContent k other (judged.CheckPlan wants form) c line) (sym found) fails.fault)
   not_done_and_failed _ file answer new given tells does k line fails = absurd (cc)
 
   -- a statement that gives its text is not refused

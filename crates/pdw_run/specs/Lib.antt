@@ -1,5 +1,4 @@
 pub mod Words
-pub mod Text
 pub mod Refusal
 pub mod RefusalLine
 pub mod Reading

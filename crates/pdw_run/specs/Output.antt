@@ -4,8 +4,8 @@ use Rattle.pdw_syntax.specs.declared.statement.Statement.{Statement}
 use Rattle.pdw_engine.specs.Executes.{Gives as Answered, RefusesWork}
 use Rattle.pdw_engine.specs.Plain.{Plain, start}
 use Rattle.pdw_engine.specs.Prepared.{Prepares, RefusesFirst, wanted}
-use Rattle.pdw_engine.specs.declared.answer.Answer.{Answer}
-use Rattle.pdw_engine.specs.declared.refusal.Refusal.{Refusal}
+use Rattle.pdw_answer.specs.declared.answer.Answer.{Answer}
+use Rattle.pdw_answer.specs.declared.refusal.Refusal.{Refusal}
 use Rattle.pdw_base.specs.declared.limits.TheConstants.{MOST_FILE_BYTES}
 use Rattle.pdw_outside.specs.Faults.{Rose}
 use Rattle.pdw_outside.specs.Whole.{IsContent}
@@ -16,7 +16,7 @@ use Rattle.pdw_run.specs.declared.status.Status.TheVariants as status
 use Rattle.pdw_run.specs.Reading.{IsScript, IsTextFault}
 use Rattle.pdw_run.specs.Refusal.{long_script_line, limit_line}
 use Rattle.pdw_run.specs.RefusalLine.{refusal_line}
-use Rattle.pdw_run.specs.Text.{answer_text}
+use Rattle.pdw_show.specs.Answer.{shown_answer}
 use Rattle.pdw_run.specs.Trace.{Trace, cut_at, followed_by, nothing, prints}
 use Rattle.pdw_run.specs.Words.{AskRun, HaveNoForm}
 
@@ -38,7 +38,7 @@ pub record Gives (held : Held) (old : Plain) (statement : Statement) (trace : Tr
   pub answer : Answer
   pub answered : Answered old statement file answer new
   pub told : IsTold held (wanted answered.work) file
-  pub printed : trace ≡ prints (answer_text answer)
+  pub printed : trace ≡ prints (shown_answer answer)
 
 -- why the content of a file is not used, by this line of statement k: it is too long, or what was judged can't be done with it
 abbrev pub FailsContent : ℕ → Plain → Judged → List ℕ → List ℕ → Type 0

@@ -1,7 +1,7 @@
 -- The line of a refusal.
 use Rattle.std.specs.Prelude.{ℕ, List, codes}
-use Rattle.pdw_engine.specs.declared.refusal.Refusal.{Refusal}
-use Rattle.pdw_engine.specs.declared.refusal.Refusal.TheVariants.{Judge, Load, NotBuilt, Rows}
+use Rattle.pdw_answer.specs.declared.refusal.Refusal.{Refusal}
+use Rattle.pdw_answer.specs.declared.refusal.Refusal.TheVariants.{Judge, Load, NotBuilt, Rows}
 use Rattle.pdw_run.specs.Refusal.{fault_line, judged_line, limit_line, not_built_line}
 
 -- the line that refuses statement k

@@ -1,10 +1,12 @@
 -- Why a statement gives no text.
 use Rattle.std.specs.Prelude.{◌≡◌, ℕ, List, Option, Some}
 use Rattle.pdw_syntax.specs.declared.statement.Statement.{Statement}
+use Rattle.pdw_engine.specs.Executes.{StopsWork}
 use Rattle.pdw_engine.specs.Plain.{Plain}
-use Rattle.pdw_engine.specs.declared.refusal.Stop.{Stop as EngineStop}
-use Rattle.pdw_engine.specs.declared.refusal.Stop.TheVariants as engine
+use Rattle.pdw_engine.specs.declared.stop.Stop.{Stop as EngineStop}
+use Rattle.pdw_engine.specs.declared.stop.Stop.TheVariants as engine
 use Rattle.pdw_base.specs.declared.limits.TheConstants.{MOST_FILE_BYTES}
+use Rattle.pdw_form.specs.declared.judged.Judged.{Judged}
 use Rattle.pdw_outside.specs.Faults.{Rose}
 use Rattle.pdw_outside.specs.Whole.{IsLongerThan}
 use Rattle.pdw_run.specs.declared.stop.Stop.{Stop}
@@ -17,6 +19,10 @@ use Rattle.pdw_run.specs.RefusalLine.{refusal_line}
 abbrev pub stop_of : EngineStop → Stop
 stop_of (engine.Refused fault) = Refused fault
 stop_of engine.Memory = Memory
+
+-- what was judged is not done with the file that it wants: it is refused, or memory was wanted
+abbrev pub StopsAs : Plain → Judged → Option (List ℕ) → Stop → Type 0
+StopsAs old work file stop = (told : EngineStop) × StopsWork old work file told × (stop ≡ stop_of told)
 
 -- the file that is wanted is not used: it is too long, or it was not read and its count rose, or memory was wanted
 abbrev pub StopsFile : Held → (List ℕ → ℕ) → (List ℕ → ℕ) → Option (List ℕ) → Stop → Type 0

@@ -1,10 +1,12 @@
 //! Laws of scripts and of lawful outputs.
 
-ghost use Rattle.std.specs.Prelude.{◌≡◌, ℕ, List};
+ghost use Rattle.std.specs.Prelude.{◌≡◌, ◌≤◌, ℕ, List};
 ghost use Rattle.pdw_syntax.specs.declared.statement.Statement.{Statement as StatementOf};
 ghost use Rattle.pdw_run.specs.Output.{BeginsOutput, Cut, Finished, Held, Outputs, Refused, TellsAll};
 ghost use Rattle.pdw_run.specs.Reading.{IsScript, IsTextFault};
 ghost use Rattle.pdw_run.specs.Trace.{Trace};
+
+use pdw_plan_exists::each_query_has_a_least_plan;
 
 /// The bytes of a script say one list of statements, or else one line refuses them.
 pub fn a_script_says_one_thing()
@@ -13,10 +15,12 @@ pub fn a_script_says_one_thing()
     ensures either { (script line : List ℕ) (statements : List StatementOf) → IsScript script statements → ¬ (IsTextFault script line) }
 {}
 
-/// What a failing sink cut is the beginning of a whole lawful output.
+/// What a failing sink cut is the beginning of a whole lawful output, at 1 to 16 compute nodes.
 pub fn a_cut_output_begins_a_whole_one()
-    ensures { (held : Held) (nodes : ℕ) (script : List ℕ) (out : Trace) → Outputs held nodes script Cut out → BeginsOutput held nodes script out.text }
-{}
+    ensures { (held : Held) (nodes : ℕ) (script : List ℕ) (out : Trace) → 1 ≤ nodes → nodes ≤ 16 → Outputs held nodes script Cut out → BeginsOutput held nodes script out.text }
+{
+    each_query_has_a_least_plan();
+}
 
 /// Over files that tell every name, no script has both a finished output and one that ends with a refusal.
 pub fn a_script_is_done_or_refused()

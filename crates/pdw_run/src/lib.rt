@@ -9,11 +9,9 @@ pub mod run;
 mod status;
 mod step;
 mod stop;
-mod text;
 mod words;
 
 pub use reading::read_script;
 pub use refusal::refusal_line;
 pub use status::Status;
 pub use step::run_statements;
-pub use text::push_rows;

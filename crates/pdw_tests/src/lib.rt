@@ -8,6 +8,10 @@ mod limits;
 #[cfg(test)]
 mod outside;
 #[cfg(test)]
+mod plan_files;
+#[cfg(test)]
+mod plans;
+#[cfg(test)]
 mod program;
 #[cfg(test)]
 mod queries;

@@ -2,6 +2,7 @@
 
 ghost use Rattle.std.specs.Prelude.{◌≡◌, true, IfOk};
 ghost use Rattle.pdw_engine.specs.Prepared.{Prepares};
+ghost use Rattle.pdw_engine.specs.Ready.{HasPlan};
 ghost use Rattle.pdw_syntax.specs.Written.{statement_written};
 
 use super::queries::{files, meant, session_over};
@@ -29,7 +30,8 @@ fn a_table_keeps_its_rows_where_a_file_is_refused(rt: HostRuntime) -> Result<(),
 
 fn prepared(alloc: Global, session: &Session, statement: &Statement) -> Result<Prepared, Fail>
     requires { statement_written statement.now ≡ true }
-    ensures { IfOk result (Prepares session.now.contents.tables statement.now) }
+    ensures prepared { IfOk result (λ prepared. Prepares session.now.contents.tables statement.now prepared.work) }
+    ensures planned { IfOk result (HasPlan session.now) }
 {
     match session.prepare(alloc, statement) {
         Ok(prepared) => Ok(prepared),

@@ -5,7 +5,7 @@ use Rattle.pdw_engine.proofs.PlainLemmas.{SamePlain-gained}
 use Rattle.pdw_engine.specs.Executes.{LoadsContent}
 use Rattle.pdw_engine.specs.Plain.{SamePlain, plain_of, with_rows}
 use Rattle.pdw_engine.specs.State.{State}
-use Rattle.pdw_engine.specs.declared.answer.Answer.TheVariants.{Loaded}
+use Rattle.pdw_answer.specs.declared.answer.Answer.TheVariants.{Loaded}
 use Rattle.pdw_engine.proofs.session.Session.load.Goals as goal
 
 pub returns-clause-loaded : goal.returns-clause-loaded
