@@ -1,0 +1,2 @@
+-- what CHECK PLAN answers of what EXPLAIN JSON printed
+pub mod Accepts
