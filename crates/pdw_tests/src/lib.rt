@@ -8,8 +8,6 @@ mod limits;
 #[cfg(test)]
 mod outside;
 #[cfg(test)]
-mod plan_files;
-#[cfg(test)]
 mod plans;
 #[cfg(test)]
 mod program;
